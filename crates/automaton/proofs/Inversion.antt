@@ -1,0 +1,325 @@
+-- What a judge that finds something has checked: every step before a `found` has passed, and each test is a fact.
+use Prim.Native.Nat.{ℕ, zero, suc, _+_, _*_, _%_, _≤_, _<_}
+use native.Mathlib.Omega.{arith}
+use mathlib.Core.Path.{_≡_, refl, sym, ap, _∙_}
+use mathlib.Core.List.{List, [], _∷_}
+use mathlib.Core.Bool.{Bool, true, false, _&&_, false≢true}
+use lib.ListN.{length, drop, getD}
+use lib.Dec.{leb, ltb, eqb}
+use borrow.Author.Tests.{ltb-true, leb-true, eqb-true, lt-ltb, le-leb, eq-eqb}
+use Rattle.automaton.specs.Lists.{All, none, also, Rising, empty, single, step, all, rising, risingFrom}
+use Rattle.automaton.specs.Bytes.{number2, numbers}
+use Rattle.automaton.specs.Record as records
+use Rattle.automaton.specs.Record.{Opening, whole, nothing, opened, bodyOf, restOf}
+use Rattle.automaton.specs.Automaton.{Rule, Automaton}
+use Rattle.automaton.specs.Read.{Read, found, refused, _>>=_, _>>_, check}
+use Rattle.automaton.proofs.Opening.{rest-behind}
+use Rattle.automaton.specs.Table.{dueIn, due, ruleIn, judgeRule, judgeRules, judgeFinals, judgeRanks, judge}
+
+-- Steps.
+
+refused≢found : {A : Type 0} {cause : ℕ} {a : A} → refused cause ≡ found a → ⊥
+refused≢found h = let z : _≡_ {A = ℕ} 0 1 = cc in omega arith
+
+pub bind-found :
+    {A B : Type 0} (x : Read A) (f : A → Read B) {y : B} → x >>= f ≡ found y → (a : A) × (x ≡ found a) × (f a ≡ found y)
+unfolding _>>=_
+bind-found (found a) f h = (a, refl, h)
+bind-found (refused cause) f h = absurd (refused≢found h)
+
+pub then-found :
+    {A B : Type 0} (x : Read A) (y : Read B) {z : B} → x >> y ≡ found z → (a : A) × (x ≡ found a) × (y ≡ found z)
+unfolding _>>_
+then-found (found a) y h = (a, refl, h)
+then-found (refused cause) y h = absurd (refused≢found h)
+
+pub check-found : (t : Bool) (cause : ℕ) {u : Unit {0}} → check t cause ≡ found u → t ≡ true
+unfolding check
+check-found true cause h = refl
+check-found false cause h = absurd (refused≢found h)
+
+-- A check and what follows it.
+pub checked :
+    {B : Type 0} (t : Bool) (cause : ℕ) (y : Read B) {z : B} → check t cause >> y ≡ found z → (t ≡ true) × (y ≡ found z)
+checked t cause y h = let s = then-found (check t cause) y h in (check-found t cause (s .1), s .2)
+
+found-same : {A : Type 0} {a b : A} → found a ≡ found b → a ≡ b
+found-same h = cc
+
+-- The next record.
+
+dueIn-found : (kind missing : ℕ) (o : Opening) {end : ℕ} → dueIn kind missing o ≡ found end → o ≡ whole kind end
+unfolding dueIn
+dueIn-found kind missing (whole k e) h =
+    let c = checked (eqb k kind) 2 (found e) h in
+    cc (eqb-true k kind (c .0), found-same (c .1))
+dueIn-found kind missing nothing h = absurd (refused≢found h)
+dueIn-found kind missing (records.refused cause) h = absurd (refused≢found h)
+
+pub due-found : (kind missing : ℕ) (b : List ℕ) {end : ℕ} → due kind missing b ≡ found end → opened b ≡ whole kind end
+unfolding due
+due-found kind missing b h = dueIn-found kind missing (opened b) h
+
+-- Tests of lists.
+
+both-true : (s t : Bool) → (s && t) ≡ true → (s ≡ true) × (t ≡ true)
+both-true true t h = (refl, h)
+both-true false t h = absurd (false≢true h)
+
+module _ (t : ℕ → Bool) (P : ℕ → Type 0) where
+  pub all→All : ((x : ℕ) → t x ≡ true → P x) → (xs : List ℕ) → all t xs ≡ true → All P xs
+  unfolding all
+  all→All f [] h = none
+  all→All f (x ∷ xs) h = let c = both-true (t x) (all t xs) h in also (f x (c .0)) (all→All f xs (c .1))
+
+  pub All→all : ((x : ℕ) → P x → t x ≡ true) → {xs : List ℕ} → All P xs → all t xs ≡ true
+  unfolding all
+  All→all f none = refl
+  All→all f (also p ps) = rw (f _ p, All→all f ps)
+
+pub risingFrom→Rising : (a : ℕ) (xs : List ℕ) → risingFrom a xs ≡ true → Rising (a ∷ xs)
+unfolding risingFrom
+risingFrom→Rising a [] h = single
+risingFrom→Rising a (b ∷ xs) h =
+    let c = both-true (ltb a b) (risingFrom b xs) h in
+    step (ltb-true a b (c .0)) (risingFrom→Rising b xs (c .1))
+
+pub rising→Rising : (xs : List ℕ) → rising xs ≡ true → Rising xs
+unfolding rising
+rising→Rising [] h = empty
+rising→Rising (a ∷ xs) h = risingFrom→Rising a xs h
+
+pub Rising→rising : {xs : List ℕ} → Rising xs → rising xs ≡ true
+unfolding rising risingFrom
+Rising→rising empty = refl
+Rising→rising single = refl
+Rising→rising (step h r) = rw (lt-ltb _ _ h) (Rising→rising r)
+
+pub all-below : (n : ℕ) (xs : List ℕ) → all (λ (q : ℕ). ltb q n) xs ≡ true → All (λ (q : ℕ). q < n) xs
+all-below n = all→All (λ (q : ℕ). ltb q n) (λ (q : ℕ). q < n) (λ q. ltb-true q n)
+
+pub below-all : (n : ℕ) {xs : List ℕ} → All (λ (q : ℕ). q < n) xs → all (λ (q : ℕ). ltb q n) xs ≡ true
+below-all n = All→all (λ (q : ℕ). ltb q n) (λ (q : ℕ). q < n) (λ q. lt-ltb q n)
+
+-- What each judge has checked.
+
+pub record RuleFound (n : ℕ) (ranks body : List ℕ) (u : Rule) : Type 0 where
+  pub start : 4 ≤ length body
+  pub symbol : number2 body < length ranks
+  pub size : length body ≡ 4 + 2 * getD ranks (number2 body) 0
+  pub states : All (λ (q : ℕ). q < n) (numbers (drop 2 body))
+  pub rule : u ≡ ruleIn body
+
+pub record NoRules (b : List ℕ) (us : List Rule) : Type 0 where
+  pub bytes : b ≡ []
+  pub rules : us ≡ []
+
+pub record RulesFound (n : ℕ) (ranks : List ℕ) (k : ℕ) (b : List ℕ) (us : List Rule) : Type 0 where
+  pub end : ℕ
+  pub opens : opened b ≡ whole 4 end
+  pub rule : Rule
+  pub first : judgeRule n ranks (bodyOf b) ≡ found rule
+  pub rest : List Rule
+  pub others : judgeRules n ranks k (drop end b) ≡ found rest
+  pub rules : us ≡ rule ∷ rest
+
+pub record FinalsFound (n : ℕ) (ranks : List ℕ) (k : ℕ) (b : List ℕ) (A : Automaton) : Type 0 where
+  pub end : ℕ
+  pub opens : opened b ≡ whole 3 end
+  pub even : length (bodyOf b) % 2 ≡ 0
+  pub states : All (λ (q : ℕ). q < n) (numbers (bodyOf b))
+  pub rises : Rising (numbers (bodyOf b))
+  pub rules : List Rule
+  pub others : judgeRules n ranks k (drop end b) ≡ found rules
+  pub table : A ≡ record { states = n; ranks = ranks; finals = numbers (bodyOf b); rules = rules }
+
+pub record RanksFound (n m k : ℕ) (b : List ℕ) (A : Automaton) : Type 0 where
+  pub end : ℕ
+  pub opens : opened b ≡ whole 2 end
+  pub count : length (bodyOf b) ≡ m
+  pub small : All (λ (r : ℕ). r ≤ 8) (bodyOf b)
+  pub others : judgeFinals n (bodyOf b) k (drop end b) ≡ found A
+
+pub record TableFound (b : List ℕ) (A : Automaton) : Type 0 where
+  pub end : ℕ
+  pub opens : opened b ≡ whole 1 end
+  pub size : length (bodyOf b) ≡ 6
+  pub states : number2 (bodyOf b) ≤ 256
+  pub symbols : number2 (drop 2 (bodyOf b)) ≤ 256
+  pub count : number2 (drop 4 (bodyOf b)) ≤ 1024
+  pub others :
+      judgeRanks (number2 (bodyOf b)) (number2 (drop 2 (bodyOf b))) (number2 (drop 4 (bodyOf b))) (drop end b) ≡ found A
+
+module _ (n : ℕ) (ranks : List ℕ) where
+  pub rule-found : (body : List ℕ) {u : Rule} → judgeRule n ranks body ≡ found u → RuleFound n ranks body u
+  unfolding judgeRule
+  rule-found body h =
+      let c₁ = checked _ _ _ h in
+      let c₂ = checked _ _ _ (c₁ .1) in
+      let c₃ = checked _ _ _ (c₂ .1) in
+      let c₄ = checked _ _ _ (c₃ .1) in
+      record {
+        start = leb-true _ _ (c₁ .0);
+        symbol = ltb-true _ _ (c₂ .0);
+        size = eqb-true _ _ (c₃ .0);
+        states = all-below _ _ (c₄ .0);
+        rule = sym (found-same (c₄ .1));
+      }
+
+  pub no-rules-found : (b : List ℕ) {us : List Rule} → judgeRules n ranks zero b ≡ found us → NoRules b us
+  unfolding judgeRules
+  no-rules-found [] h = record { bytes = refl; rules = sym (found-same h) }
+  no-rules-found (x ∷ b) h = absurd (refused≢found (then-found _ _ h .2))
+
+  pub rules-found :
+      (k : ℕ) (b : List ℕ) {us : List Rule} → judgeRules n ranks (suc k) b ≡ found us → RulesFound n ranks k b us
+  unfolding judgeRules
+  rules-found k b h =
+      let c₁ = bind-found _ _ h in
+      let c₂ = bind-found _ _ (c₁ .2) in
+      let c₃ = bind-found _ _ (c₂ .2) in
+      record {
+        end = c₁ .0;
+        opens = due-found 4 7 b (c₁ .1);
+        rule = c₂ .0;
+        first = c₂ .1;
+        rest = c₃ .0;
+        others = c₃ .1;
+        rules = sym (found-same (c₃ .2));
+      }
+
+  pub finals-found : (k : ℕ) (b : List ℕ) {A : Automaton} → judgeFinals n ranks k b ≡ found A → FinalsFound n ranks k b A
+  unfolding judgeFinals
+  finals-found k b h =
+      let c₁ = bind-found _ _ h in
+      let c₂ = checked _ _ _ (c₁ .2) in
+      let c₃ = checked _ _ _ (c₂ .1) in
+      let c₄ = checked _ _ _ (c₃ .1) in
+      let c₅ = bind-found _ _ (c₄ .1) in
+      record {
+        end = c₁ .0;
+        opens = due-found 3 2 b (c₁ .1);
+        even = eqb-true _ _ (c₂ .0);
+        states = all-below _ _ (c₃ .0);
+        rises = rising→Rising _ (c₄ .0);
+        rules = c₅ .0;
+        others = c₅ .1;
+        table = sym (found-same (c₅ .2));
+      }
+
+pub ranks-found : (n m k : ℕ) (b : List ℕ) {A : Automaton} → judgeRanks n m k b ≡ found A → RanksFound n m k b A
+unfolding judgeRanks
+ranks-found n m k b h =
+    let c₁ = bind-found _ _ h in
+    let c₂ = checked _ _ _ (c₁ .2) in
+    let c₃ = checked _ _ _ (c₂ .1) in
+    record {
+      end = c₁ .0;
+      opens = due-found 2 2 b (c₁ .1);
+      count = eqb-true _ _ (c₂ .0);
+      small = all→All (λ (r : ℕ). leb r 8) (λ (r : ℕ). r ≤ 8) (λ r. leb-true r 8) _ (c₃ .0);
+      others = c₃ .1;
+    }
+
+pub table-found : (b : List ℕ) {A : Automaton} → judge b ≡ found A → TableFound b A
+unfolding judge
+table-found b h =
+    let c₁ = bind-found _ _ h in
+    let c₂ = checked _ _ _ (c₁ .2) in
+    let c₃ = checked _ _ _ (c₂ .1) in
+    let c₄ = checked _ _ _ (c₃ .1) in
+    let c₅ = checked _ _ _ (c₄ .1) in
+    record {
+      end = c₁ .0;
+      opens = due-found 1 2 b (c₁ .1);
+      size = eqb-true _ _ (c₂ .0);
+      states = leb-true _ _ (c₃ .0);
+      symbols = leb-true _ _ (c₄ .0);
+      count = leb-true _ _ (c₅ .0);
+      others = c₅ .1;
+    }
+
+-- The other way round: where the facts hold, the judge finds.
+
+pub due-finds : (kind missing : ℕ) (b : List ℕ) {end : ℕ} → opened b ≡ whole kind end → due kind missing b ≡ found end
+unfolding due dueIn check _>>_
+due-finds kind missing b e = rw (e, dueIn, eq-eqb kind kind refl)
+
+module _ (n : ℕ) (ranks : List ℕ) where
+  pub rule-finds : (body : List ℕ) {u : Rule} → RuleFound n ranks body u → judgeRule n ranks body ≡ found u
+  unfolding judgeRule check _>>_
+  rule-finds body r =
+      rw (le-leb _ _ (r .start), lt-ltb _ _ (r .symbol), eq-eqb _ _ (r .size), below-all n (r .states))
+      (ap found (sym (r .rule)))
+
+  pub rules-finds :
+      (k : ℕ) (b : List ℕ) {us : List Rule} → RulesFound n ranks k b us → judgeRules n ranks (suc k) b ≡ found us
+  unfolding judgeRules _>>=_
+  rules-finds k b r = rw (due-finds 4 7 b (r .opens), r .first, r .others) (ap found (sym (r .rules)))
+
+  pub finals-finds : (k : ℕ) (b : List ℕ) {A : Automaton} → FinalsFound n ranks k b A → judgeFinals n ranks k b ≡ found A
+  unfolding judgeFinals check _>>_ _>>=_
+  finals-finds k b r =
+      rw (due-finds 3 2 b (r .opens), eq-eqb _ _ (r .even), below-all n (r .states), Rising→rising (r .rises), r .others)
+      (ap found (sym (r .table)))
+
+pub ranks-finds : (n m k : ℕ) (b : List ℕ) {A : Automaton} → RanksFound n m k b A → judgeRanks n m k b ≡ found A
+unfolding judgeRanks check _>>_ _>>=_
+ranks-finds n m k b r =
+    let small = All→all (λ (x : ℕ). leb x 8) (λ (x : ℕ). x ≤ 8) (λ x. le-leb x 8) (r .small) in
+    rw (due-finds 2 2 b (r .opens), eq-eqb _ _ (r .count), small, r .others)
+
+pub table-finds : (b : List ℕ) {A : Automaton} → TableFound b A → judge b ≡ found A
+unfolding judge check _>>_ _>>=_
+table-finds b r =
+    let n = le-leb _ _ (r .states) in
+    let m = le-leb _ _ (r .symbols) in
+    let k = le-leb _ _ (r .count) in
+    rw (due-finds 1 2 b (r .opens), eq-eqb _ _ (r .size), n, m, k, r .others)
+
+-- The counts of a table, and where its parts stand.
+
+pub rules-count :
+    (n : ℕ) (ranks : List ℕ) (k : ℕ) (b : List ℕ) {us : List Rule} → judgeRules n ranks k b ≡ found us → length us ≡ k
+rules-count n ranks zero b h = ap length (no-rules-found n ranks b h .rules)
+rules-count n ranks (suc k) b h =
+    let c = rules-found n ranks k b h in
+    ap length (c .rules) ∙ ap suc (rules-count n ranks k (drop (c .end) b) (c .others))
+
+pub record Sized (n m k : ℕ) (A : Automaton) : Type 0 where
+  pub states : A .states ≡ n
+  pub symbols : length (A .ranks) ≡ m
+  pub count : length (A .rules) ≡ k
+
+pub ranks-sized : (n m k : ℕ) (b : List ℕ) {A : Automaton} → judgeRanks n m k b ≡ found A → Sized n m k A
+ranks-sized n m k b {A} h =
+    let r = ranks-found n m k b h in
+    let f = finals-found n (bodyOf b) k (drop (r .end) b) (r .others) in
+    record {
+      states = ap (λ (X : Automaton). X .states) (f .table);
+      symbols = ap (λ (X : Automaton). length (X .ranks)) (f .table) ∙ r .count;
+      count = ap (λ (X : Automaton). length (X .rules)) (f .table) ∙ rules-count n (bodyOf b) k _ (f .others);
+    }
+
+pub judge-sized :
+    (b : List ℕ) {A : Automaton} → judge b ≡ found A
+    → Sized (number2 (bodyOf b)) (number2 (drop 2 (bodyOf b))) (number2 (drop 4 (bodyOf b))) A
+judge-sized b h = let t = table-found b h in ranks-sized _ _ _ (drop (t .end) b) (t .others)
+
+pub record Parts (b : List ℕ) (A : Automaton) : Type 0 where
+  pub ranks : A .ranks ≡ bodyOf (restOf b)
+  pub finals : A .finals ≡ numbers (bodyOf (restOf (restOf b)))
+  pub rules : judgeRules (A .states) (A .ranks) (length (A .rules)) (restOf (restOf (restOf b))) ≡ found (A .rules)
+
+pub judge-parts : (b : List ℕ) {A : Automaton} → judge b ≡ found A → Parts b A
+judge-parts b {A} h =
+    let t = table-found b h in
+    let r = ranks-found _ _ _ (drop (t .end) b) (t .others) in
+    let f = finals-found _ _ _ (drop (r .end) (drop (t .end) b)) (r .others) in
+    let e₁ = rest-behind b (t .opens) in
+    let e₂ = rest-behind (drop (t .end) b) (r .opens) in
+    let e₃ = rest-behind (drop (r .end) (drop (t .end) b)) (f .opens) in
+    let e₄ = judge-sized b h .count in
+    let e₅ = f .table in
+    let e₆ = f .others in
+    record { ranks = cc; finals = cc; rules = cc }

@@ -1,0 +1,13 @@
+pub mod Examples
+pub mod Opening
+pub mod Fields
+pub mod Scanning
+pub mod Records
+pub mod Inversion
+pub mod Judging
+pub mod Encoding
+pub mod StateSets
+pub mod Copying
+pub mod Meaning
+pub mod WrittenBytes
+pub mod Theorems

@@ -1,0 +1,128 @@
+-- The arrays that decoding fills hold the automaton that was read: row i is rule i, and the set gives the final states in order.
+use Prim.Native.Nat.{ℕ, zero, suc, _+_, _*_, _≤_, _<_}
+use native.Mathlib.Nat.{add-zero}
+use native.Mathlib.Omega.{arith}
+use mathlib.Core.Path.{_≡_, refl, sym, ap, _∙_}
+use mathlib.Core.List.{List, [], _∷_, _++_, map, append-assoc}
+use lib.ListN.{length, take, drop, getD, length-append, List·getD-append}
+use lib.Seq.{take-append-seam, drop-append-seam, drop-drop, getD-drop, drop-at}
+use Rattle.automaton.specs.Lists.{All, none, also, from}
+use Rattle.automaton.specs.Automaton.{Rule, Automaton, WellFormed, WellFormedRule}
+use Rattle.automaton.specs.StateSet.{setOf}
+use Rattle.automaton.specs.Read.{Read, found, refused, mapRead}
+use Rattle.automaton.specs.Table.{judge}
+use Rattle.automaton.specs.Decoded.{sizeOf, sized, finalsOf, padded, row, rows, ranksAfter, rowsAfter, ruleAt, automatonIn, Decodes}
+use Rattle.automaton.specs.Answers.{judgementOf}
+use Rattle.automaton.specs.declared.table.Size.{Size}
+use Rattle.automaton.specs.declared.table.Judged.the-variants.{Table}
+use Rattle.automaton.specs.declared.decoding.Decoded.{Decoded}
+use Rattle.automaton.proofs.Judging.{refused≢found}
+use Rattle.automaton.proofs.Encoding.{judge-well-formed, all-at}
+use Rattle.automaton.proofs.StateSets.{states-of-set}
+
+pub length-padded : (n : ℕ) (xs : List ℕ) → length (padded n xs) ≡ n
+unfolding padded
+length-padded zero xs = refl
+length-padded (suc n) [] = ap suc (length-padded n [])
+length-padded (suc n) (x ∷ xs) = ap suc (length-padded n xs)
+
+take-padded : (n : ℕ) (xs ys : List ℕ) → length xs ≤ n → take (length xs) (padded n xs ++ ys) ≡ xs
+unfolding padded
+take-padded n [] ys h = refl
+take-padded zero (x ∷ xs) ys h = absurd (omega arith)
+take-padded (suc n) (x ∷ xs) ys h = ap (λ (l : List ℕ). x ∷ l) (take-padded n xs ys (omega arith))
+
+-- A row read back.
+module _ (ranks table : List ℕ) (i : ℕ) (u : Rule) (more : List ℕ) (at-row : drop (10 * i) table ≡ row u ++ more) where
+  element : (j : ℕ) → getD table (10 * i + j) 0 ≡ getD (row u ++ more) j 0
+  element j = sym (getD-drop (10 * i) table j 0) ∙ ap (λ (l : List ℕ). getD l j 0) at-row
+
+  symbol-back : getD table (10 * i) 0 ≡ u .symbol
+  unfolding row padded
+  symbol-back = ap (λ (k : ℕ). getD table k 0) (sym (add-zero (10 * i))) ∙ element 0
+
+  target-back : getD table (10 * i + 1) 0 ≡ u .target
+  unfolding row padded
+  target-back = element 1
+
+  children-back : length (u .children) ≤ 8 → take (length (u .children)) (drop (10 * i + 2) table) ≡ u .children
+  unfolding row padded
+  children-back h = rw (← drop-drop 2 (10 * i) table, at-row) (take-padded 8 (u .children) more h)
+
+  pub rule-back : length (u .children) ≤ 8 → getD ranks (u .symbol) 0 ≡ length (u .children) → ruleAt ranks table i ≡ u
+  unfolding ruleAt
+  rule-back h r = rw (symbol-back, target-back, r, children-back h)
+
+-- All rows read back.
+length-row : (u : Rule) → length (row u) ≡ 10
+unfolding row
+length-row u = length-padded 10 (u .symbol ∷ u .target ∷ u .children)
+
+Readable : List ℕ → Rule → Type 0
+Readable ranks u = (length (u .children) ≤ 8) × (getD ranks (u .symbol) 0 ≡ length (u .children))
+
+rules-back : (ranks table more : List ℕ) (us : List Rule) (i : ℕ) → drop (10 * i) table ≡ rows us ++ more → All (Readable ranks) us
+    → map (ruleAt ranks table) (from i (length us)) ≡ us
+unfolding from rows Readable
+rules-back ranks table more [] i e none = refl
+rules-back ranks table more (u ∷ us) i e (also r rs) =
+    let here : drop (10 * i) table ≡ row u ++ (rows us ++ more) = e ∙ append-assoc (row u) (rows us) more in
+    let next : 10 * i + 10 ≡ 10 * suc i = omega arith in
+    let there : drop (10 * suc i) table ≡ rows us ++ more =
+    rw (← next, ← drop-drop 10 (10 * i) table, here) (drop-at (row u) (rows us ++ more) 10 (length-row u)) in
+    rw (rule-back ranks table i u (rows us ++ more) here (r .0) (r .1), rules-back ranks table more us (suc i) there rs)
+
+module _ (A : Automaton) (w : WellFormed A) (more : List ℕ) where
+  rule-readable : {u : Rule} → WellFormedRule A u → Readable (A .ranks ++ more) u
+  unfolding Readable
+  rule-readable {u} r =
+      let e : getD (A .ranks ++ more) (u .symbol) 0 ≡ length (u .children) =
+      List·getD-append (A .ranks) more 0 (u .symbol) (r .symbol) ∙ sym (r .arity) in
+      let b : getD (A .ranks) (u .symbol) 0 ≤ 8 = all-at (w .ranks) (u .symbol) (r .symbol) in
+      (omega (arith, r .arity), e)
+
+  rules-readable : (us : List Rule) → All (WellFormedRule A) us → All (Readable (A .ranks ++ more)) us
+  rules-readable [] none = none
+  rules-readable (u ∷ us) (also r rs) = also (rule-readable r) (rules-readable us rs)
+
+-- What decoding fills in means the automaton.
+pub automaton-back : (A : Automaton) → WellFormed A → (x y : List ℕ)
+    → automatonIn (sizeOf A) (setOf (A .finals)) (A .ranks ++ x) (rows (A .rules) ++ y) ≡ A
+unfolding automatonIn sizeOf
+automaton-back A w x y =
+    rw (
+      take-append-seam (A .ranks) x,
+      states-of-set (A .finals) (A .states) (w .states) (w .finals) (w .rising),
+      rules-back (A .ranks ++ x) (rows (A .rules) ++ y) y (A .rules) 0 refl (rules-readable A w x (A .rules) (w .rules)),
+    )
+
+-- What a caller of `decode` has where the table is not refused.
+pub record Held (b : List ℕ) (size : Size) (finals ranks table : List ℕ) : Type 0 where
+  pub automaton : Automaton
+  pub judged : judge b ≡ found automaton
+  pub well-formed : WellFormed automaton
+  pub counts : size ≡ sizeOf automaton
+  pub holds : automatonIn size finals ranks table ≡ automaton
+
+held-from : (b : List ℕ) (x : Read Automaton) (size : Size) (finals ranks ranks′ table table′ : List ℕ) → judge b ≡ x
+    → found size ≡ sized x → finals ≡ finalsOf x → ranks′ ≡ ranksAfter x ranks → table′ ≡ rowsAfter x table
+    → Held b size finals ranks′ table′
+unfolding sized mapRead finalsOf ranksAfter rowsAfter
+held-from b (refused c) size finals ranks ranks′ table table′ e s f r t = absurd (refused≢found (sym s))
+held-from b (found A) size finals ranks ranks′ table table′ e s f r t =
+    let w = judge-well-formed b A e in
+    let n : size ≡ sizeOf A = cc in
+    record {
+      automaton = A;
+      judged = e;
+      well-formed = w;
+      counts = n;
+      holds = rw (n, f, r, t) (automaton-back A w (drop (length (A .ranks)) ranks) (drop (10 * length (A .rules)) table));
+    }
+
+pub decoded-held : (b : List ℕ) (r : Decoded) (size : Size) (ranks ranks′ table table′ : List ℕ) → Decodes b r ranks ranks′ table table′
+    → r .judged ≡ Table size → Held b size (r .finals .words) ranks′ table′
+unfolding judgementOf
+decoded-held b r size ranks ranks′ table table′ d e =
+    held-from b (judge b) size (r .finals .words) ranks ranks′ table table′ refl
+    (ap judgementOf (sym e) ∙ d .answer) (d .finals) (d .ranks-after) (d .rows-after)

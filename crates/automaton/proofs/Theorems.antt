@@ -1,0 +1,55 @@
+-- What holds of reading, stated over the definitions of specs/ alone. Each theorem is proved in the file that its body names.
+use Prim.Native.Nat.{ℕ, _≤_, _<_}
+use mathlib.Core.Path.{_≡_, subst, sym}
+use mathlib.Core.List.{List, _++_}
+use mathlib.Core.Bool.{Bool, false, not, _&&_, _||_}
+use lib.ListN.{length, getD}
+use lib.Dec.{eqb}
+use Rattle.automaton.specs.Automaton.{Automaton, WellFormed}
+use Rattle.automaton.specs.Read.{found}
+use Rattle.automaton.specs.Table.{judge, encode}
+use Rattle.automaton.specs.StateSet.{member, emptySet, withState, withoutState, unionOf, setOf}
+use Rattle.automaton.specs.Decoded.{sizeOf, rows, automatonIn}
+use Rattle.automaton.proofs.Encoding as encoding
+use Rattle.automaton.proofs.StateSets as sets
+use Rattle.automaton.proofs.Meaning as meaning
+
+-- A table that is judged without a refusal is a well-formed automaton.
+pub judged-well-formed : (b : List ℕ) (A : Automaton) → judge b ≡ found A → WellFormed A
+judged-well-formed = encoding.judge-well-formed
+
+-- Encoding what was judged gives the same bytes back.
+pub encode-judged : (b : List ℕ) (A : Automaton) → ((i : ℕ) → getD b i 0 < 256) → judge b ≡ found A → encode A ≡ b
+encode-judged = encoding.encode-judge
+
+-- Judging what is encoded gives the automaton back, and what is encoded is bytes.
+pub judge-encoded : (A : Automaton) → WellFormed A → judge (encode A) ≡ found A
+judge-encoded = encoding.judge-encode
+
+pub encoded-bytes : (A : Automaton) → WellFormed A → (i : ℕ) → getD (encode A) i 0 < 256
+encoded-bytes = encoding.encode-bytes
+
+-- A well-formed table has 24 to 27,416 bytes.
+pub table-length : (b : List ℕ) (A : Automaton) → ((i : ℕ) → getD b i 0 < 256) → judge b ≡ found A
+    → (24 ≤ length b) × (length b ≤ 27416)
+table-length b A bytes e =
+    subst (λ (l : List ℕ). (24 ≤ length l) × (length l ≤ 27416)) (encode-judged b A bytes e)
+    (encoding.encode-length A (judged-well-formed b A e))
+
+-- The arrays that decoding fills, whatever stands behind their content, hold the automaton.
+pub decoded-means : (A : Automaton) → WellFormed A → (x y : List ℕ)
+    → automatonIn (sizeOf A) (setOf (A .finals)) (A .ranks ++ x) (rows (A .rules) ++ y) ≡ A
+decoded-means = meaning.automaton-back
+
+-- The members of the empty set, of a set with a state, of a set without one, and of a union.
+pub empty-members : (r : ℕ) → r < 256 → member emptySet r ≡ false
+empty-members = sets.member-empty
+
+pub with-members : (ws : List ℕ) (q r : ℕ) → q < 256 → r < 256 → member (withState ws q) r ≡ (eqb r q || member ws r)
+with-members = sets.member-with
+
+pub without-members : (ws : List ℕ) (q r : ℕ) → q < 256 → r < 256 → member (withoutState ws q) r ≡ (not (eqb r q) && member ws r)
+without-members = sets.member-without
+
+pub union-members : (ws vs : List ℕ) (r : ℕ) → r < 256 → member (unionOf ws vs) r ≡ (member ws r || member vs r)
+union-members = sets.member-union

@@ -1,0 +1,347 @@
+-- Bytes written over a buffer: one run behind another, runs that grow turn by turn; the parts of a table in bytes.
+use Prim.Native.Nat.{ℕ, zero, suc, _+_, _-_, _*_, _/_, _%_, _≤_, _<_}
+use mathlib.Core.Path.{_≡_, refl, sym, ap, ap₂, _∙_}
+use mathlib.Core.List.{List, [], _∷_, _++_, map, append-assoc, append-nil, map-append}
+use mathlib.Core.Bool.{Bool, true, false, cond}
+use native.Mathlib.Nat.{add-assoc, add-zero, zero-add, add-suc, suc-add, le-of-eq}
+use native.Mathlib.Numerals.{add-one, add-two}
+use native.Mathlib.Omega.{arith}
+use lib.ListN.{length, getD, take, drop, set, length-append, length-take, length-drop, length-map}
+use lib.Seq.{take-length, take-take, take-suc, drop-drop, drop-cons, getD-take, getD-drop, length-take-le, sets-eq}
+use lib.Seq.{paste, paste-zero, paste-suc, take-paste, drop-paste}
+use borrow.Author.Tests.{le-leb, lt-leb}
+use Rattle.automaton.specs.Lists.{All, none, also, from, keep}
+use Rattle.automaton.specs.Bytes.{bytes2, bytes4, fields}
+use Rattle.automaton.specs.Automaton.{Rule, WellFormedRule, WellFormed}
+use Rattle.automaton.specs.Record.{encodeRecord}
+use Rattle.automaton.specs.Table.{encodeRule, encodeRules, encode}
+use Rattle.automaton.specs.Read.{found, refused}
+use Rattle.automaton.specs.StateSet.{member}
+use Rattle.automaton.specs.Decoded.{over, ruleAt, automatonIn, RowFits, written, writtenOver}
+use Rattle.automaton.specs.declared.table.Size.{Size}
+
+pub over-nil : (out : List ℕ) (at : ℕ) → out ≡ over out at []
+unfolding over
+over-nil out at = paste-zero out at []
+
+pub over-zero : (out bytes : List ℕ) → over out 0 bytes ≡ bytes ++ drop (length bytes) out
+unfolding over
+over-zero out bytes = simp (take-length, zero-add)
+
+-- A turn of a loop that copies.
+pub over-copy : (out : List ℕ) (at : ℕ) (src : List ℕ) (j : ℕ) → j < length src → at + j < length out
+    → set (over out at (take j src)) (at + j) (getD src j 0) ≡ over out at (take (j + 1) src)
+unfolding over
+over-copy out at src j h l =
+    rw (add-one, ← pasted j (omega arith), ← pasted (suc j) (omega arith)) (paste-suc out at src j 0 l h)
+  where
+    pasted : (n : ℕ) → n ≤ length src → paste out at src n ≡ over out at (take n src)
+    pasted n h = rw (length-take-le n src h, take-take n n src (omega arith))
+
+-- One run behind another is one run.
+pub over-over : (out : List ℕ) (at : ℕ) (xs ys : List ℕ) (k : ℕ) → k ≡ at + length xs → k + length ys ≤ length out
+    → over (over out at xs) k ys ≡ over out at (xs ++ ys)
+unfolding over
+over-over out at xs ys k e h =
+    let start : at ≤ length out = omega arith in
+    rw (
+      e,
+      take-paste out at xs (length xs) start (omega arith),
+      ← drop-drop (length ys) (at + length xs) (over out at xs),
+      drop-paste out at xs (length xs) start (omega arith),
+      take-length (xs ++ ys),
+    )
+    (simp (take-length, append-assoc, length-append, drop-drop, add-assoc))
+
+-- The same along equations, as calls leave them.
+pub over-then : (out : List ℕ) (at : ℕ) (xs now : List ℕ) (k : ℕ) (ys next : List ℕ)
+    → now ≡ over out at xs → next ≡ over now k ys → k ≡ at + length xs → k + length ys ≤ length out
+    → next ≡ over out at (xs ++ ys)
+over-then out at xs now k ys next e f place fits = rw (f, e) (over-over out at xs ys k place fits)
+
+pub over-pair : (out : List ℕ) (at v w : ℕ) → at + 2 ≤ length out
+    → set (set out at v) (at + 1) w ≡ over out at (v ∷ w ∷ [])
+unfolding over
+over-pair out at v w h = rw add-one (sets-eq (v ∷ w ∷ []) out at h)
+
+-- Numbers that grow turn by turn.
+pub record Run : Type 0 where
+  pub upto : ℕ → List ℕ
+  pub turn : ℕ → List ℕ
+  pub step : (j : ℕ) → upto (j + 1) ≡ upto j ++ turn j
+
+pub length-step : (r : Run) (j : ℕ) → length (r .upto (j + 1)) ≡ length (r .upto j) + length (r .turn j)
+length-step r j = ap length (r .step j) ∙ length-append (r .upto j) (r .turn j)
+
+pub length-grows : (r : Run) (d j n : ℕ) → j + d ≡ n → length (r .upto j) ≤ length (r .upto n)
+length-grows r zero j n e = le-of-eq (ap (λ (i : ℕ). length (r .upto i)) (omega arith))
+length-grows r (suc d) j n e = omega (arith, length-step r j, length-grows r d (j + 1) n (omega arith))
+
+pub room-for-step : (r : Run) (at room j n : ℕ) → j < n → at + length (r .upto n) ≤ room
+    → at + length (r .upto j) + length (r .turn j) ≤ room
+room-for-step r at room j n h fits = omega (arith, length-step r j, length-grows r (n - (j + 1)) (j + 1) n (omega arith))
+
+pub over-step : (r : Run) (out : List ℕ) (at j n : ℕ) → j < n → at + length (r .upto n) ≤ length out
+    → (now : List ℕ) (k : ℕ) (next : List ℕ) → now ≡ over out at (r .upto j) → next ≡ over now k (r .turn j)
+    → k ≡ at + length (r .upto j) → next ≡ over out at (r .upto (j + 1))
+over-step r out at j n h fits now k next e f place =
+    over-then out at (r .upto j) now k (r .turn j) next e f place
+    (omega (arith, room-for-step r at (length out) j n h fits))
+    ∙ ap (over out at) (sym (r .step j))
+
+-- Fields.
+
+pub bytes4-halves : (v : ℕ) → bytes4 v ≡ bytes2 (v % 65536) ++ bytes2 (v / 65536)
+unfolding bytes4 bytes2
+bytes4-halves v = ap₂ (λ (low high : ℕ). low ∷ high ∷ bytes2 (v / 65536)) (omega arith) (omega arith)
+
+pub length-fields : (vs : List ℕ) → length (fields vs) ≡ 2 * length vs
+unfolding fields bytes2
+length-fields [] = refl
+length-fields (v ∷ vs) = omega (arith, length-fields vs)
+
+pub fields-append : (us vs : List ℕ) → fields (us ++ vs) ≡ fields us ++ fields vs
+unfolding fields bytes2
+fields-append [] vs = refl
+fields-append (u ∷ us) vs = ap (λ (l : List ℕ). bytes2 u ++ l) (fields-append us vs)
+
+pub fields-single : (v : ℕ) → fields (v ∷ []) ≡ bytes2 v
+unfolding fields bytes2
+fields-single v = refl
+
+-- A turn of a loop that copies fields.
+pub over-field : (out : List ℕ) (at : ℕ) (src : List ℕ) (start j : ℕ) → start + j < length src
+    → at + 2 * j + 2 ≤ length out
+    → over (over out at (fields (take j (drop start src)))) (at + 2 * j) (bytes2 (getD src (start + j) 0))
+    ≡ over out at (fields (take (j + 1) (drop start src)))
+unfolding bytes2
+over-field out at src start j h l =
+    let vs : List ℕ = drop start src in
+    let inside : j < length vs = rw length-drop (omega arith) in
+    let place : length (fields (take j vs)) ≡ 2 * j = rw (length-fields, length-take-le j vs (omega arith)) in
+    over-over out at (fields (take j vs)) (bytes2 (getD src (start + j) 0)) (at + 2 * j) (omega arith) l
+    ∙ ap (over out at) (rw (add-one, take-suc vs j 0 inside, fields-append, fields-single, getD-drop))
+
+-- Records.
+
+pub length-record : (kind : ℕ) (body : List ℕ) → length (encodeRecord kind body) ≡ 6 + length body
+unfolding encodeRecord bytes4 bytes2
+length-record kind body = omega arith
+
+-- A head and then a body.
+pub over-record : (out : List ℕ) (at kind size : ℕ) (now body next : List ℕ)
+    → now ≡ over out at (bytes4 (2 + size) ++ bytes2 kind) → next ≡ over now (at + 6) body
+    → size ≡ length body → at + 6 + size ≤ length out → next ≡ over out at (encodeRecord kind body)
+unfolding encodeRecord bytes4 bytes2
+over-record out at kind size now body next e f sized fits =
+    over-then out at _ now (at + 6) body next (rw sized at e) f (omega arith) (omega arith)
+
+-- Ranges and states.
+
+pub from-step : (i n : ℕ) → from i (n + 1) ≡ from i n ++ ((i + n) ∷ [])
+unfolding from
+from-step i n = rw add-one (go i n)
+  where
+    go : (i n : ℕ) → from i (suc n) ≡ from i n ++ ((i + n) ∷ [])
+    go i zero = ap (λ (j : ℕ). j ∷ []) (omega arith)
+    go i (suc n) = ap₂ _∷_ refl (go (suc i) n ∙ ap (λ (j : ℕ). from (suc i) n ++ (j ∷ [])) (omega arith))
+
+pub length-from : (i n : ℕ) → length (from i n) ≡ n
+unfolding from
+length-from i zero = refl
+length-from i (suc n) = ap suc (length-from (suc i) n)
+
+pub keep-append : (test : ℕ → Bool) (us vs : List ℕ) → keep test (us ++ vs) ≡ keep test us ++ keep test vs
+unfolding keep
+keep-append test [] vs = refl
+keep-append test (u ∷ us) vs = go (test u) (keep-append test us vs)
+  where
+    go : (b : Bool) → keep test (us ++ vs) ≡ keep test us ++ keep test vs
+        → cond b (u ∷ keep test (us ++ vs)) (keep test (us ++ vs))
+        ≡ cond b (u ∷ keep test us) (keep test us) ++ keep test vs
+    go true e = ap (λ (l : List ℕ). u ∷ l) e
+    go false e = e
+
+pub length-keep : (test : ℕ → Bool) (vs : List ℕ) → length (keep test vs) ≤ length vs
+unfolding keep
+length-keep test [] = omega arith
+length-keep test (v ∷ vs) = go (test v) (length-keep test vs)
+  where
+    go : (b : Bool) → length (keep test vs) ≤ length vs
+        → length (cond b (v ∷ keep test vs) (keep test vs)) ≤ suc (length vs)
+    go true h = omega arith
+    go false h = omega arith
+
+pub kept-few : (test : ℕ → Bool) (n : ℕ) → length (keep test (from 0 n)) ≤ n
+kept-few test n = omega (arith, length-keep test (from 0 n), length-from 0 n)
+
+pub keep-in : (test : ℕ → Bool) (q : ℕ) → test q ≡ true → keep test (q ∷ []) ≡ q ∷ []
+unfolding keep
+keep-in test q e = rw e
+
+pub keep-out : (test : ℕ → Bool) (q : ℕ) → test q ≡ false → keep test (q ∷ []) ≡ []
+unfolding keep
+keep-out test q e = rw e
+
+pub keep-step : (test : ℕ → Bool) (q : ℕ) → keep test (from 0 (q + 1)) ≡ keep test (from 0 q) ++ keep test (q ∷ [])
+keep-step test q = rw (from-step, keep-append, zero-add)
+
+abbrev pub kept : (ℕ → Bool) → Run
+kept test = record { upto = λ q. keep test (from 0 q); turn = λ q. keep test (q ∷ []); step = keep-step test }
+
+pub states-step : (test : ℕ → Bool) (q : ℕ)
+    → fields (keep test (from 0 (q + 1))) ≡ fields (keep test (from 0 q)) ++ fields (keep test (q ∷ []))
+states-step test q = rw (keep-step, fields-append)
+
+abbrev pub states : (ℕ → Bool) → Run
+states test = record {
+  upto = λ q. fields (keep test (from 0 q));
+  turn = λ q. fields (keep test (q ∷ []));
+  step = states-step test;
+}
+
+-- Rules.
+
+pub room-for-head : (u : Rule) → 6 ≤ length (encodeRule u)
+unfolding encodeRule
+room-for-head u = omega (arith, length-record 4 (fields (u .symbol ∷ u .target ∷ u .children)))
+
+pub take-two : (vs : List ℕ) (at n : ℕ) → at + 2 ≤ length vs
+    → take (2 + n) (drop at vs) ≡ getD vs at 0 ∷ getD vs (at + 1) 0 ∷ take n (drop (at + 2) vs)
+take-two vs at n h =
+    let two : 2 + n ≡ suc (suc n) = omega arith in
+    let first : at < length vs = omega arith in
+    let second : suc at < length vs = omega arith in
+    rw (two, add-one, add-two, drop-cons vs at 0, drop-cons vs (suc at) 0)
+
+abbrev pub rankAt : List ℕ → List ℕ → ℕ → ℕ
+rankAt ranks rows i = getD ranks (getD rows (10 * i) 0) 0
+
+-- The fields of a row, symbol and target with as many children as the rank says.
+abbrev pub rowFields : List ℕ → List ℕ → ℕ → List ℕ
+rowFields ranks rows i = fields (take (2 + rankAt ranks rows i) (drop (10 * i) rows))
+
+module _ (ranks rows : List ℕ) (i : ℕ) (h : 10 * i + 10 ≤ length rows) where
+  pub encodeRule-row : encodeRule (ruleAt ranks rows i) ≡ encodeRecord 4 (rowFields ranks rows i)
+  unfolding encodeRule ruleAt
+  encodeRule-row =
+      ap (λ (vs : List ℕ). encodeRecord 4 (fields vs)) (sym (take-two rows (10 * i) (rankAt ranks rows i) (omega arith)))
+
+  pub length-rowFields : rankAt ranks rows i ≤ 8 → length (rowFields ranks rows i) ≡ 4 + 2 * rankAt ranks rows i
+  length-rowFields small = rw (length-fields, length-take, length-drop) (omega arith)
+
+  pub length-rule : rankAt ranks rows i ≤ 8
+      → length (encodeRule (ruleAt ranks rows i)) ≡ 10 + 2 * rankAt ranks rows i
+  length-rule small =
+      omega (arith, ap length encodeRule-row, length-record 4 (rowFields ranks rows i), length-rowFields small)
+
+pub encodeRules-append : (us vs : List Rule) → encodeRules (us ++ vs) ≡ encodeRules us ++ encodeRules vs
+unfolding encodeRules
+encodeRules-append [] vs = refl
+encodeRules-append (u ∷ us) vs =
+    rw (encodeRules-append us vs) (sym (append-assoc (encodeRule u) (encodeRules us) (encodeRules vs)))
+
+pub rules-step : (f : ℕ → Rule) (i : ℕ)
+    → encodeRules (map f (from 0 (i + 1))) ≡ encodeRules (map f (from 0 i)) ++ encodeRule (f i)
+unfolding encodeRules
+rules-step f i = rw (from-step, zero-add, map-append, encodeRules-append, append-nil)
+
+abbrev pub rules : (ℕ → Rule) → Run
+rules f = record
+    { upto = λ i. encodeRules (map f (from 0 i)); turn = λ i. encodeRule (f i); step = rules-step f }
+
+-- A decoded table.
+
+pub room-enough : (bytes out : List ℕ) → length bytes ≤ length out
+    → (written bytes out ≡ found (length bytes)) × (writtenOver bytes out ≡ over out 0 bytes)
+unfolding written writtenOver
+room-enough bytes out h = rw (le-leb (length bytes) (length out) h) (refl, sym (over-zero out bytes))
+
+pub room-short : (bytes out : List ℕ) → length out < length bytes
+    → (written bytes out ≡ refused 13) × (writtenOver bytes out ≡ out)
+unfolding written writtenOver
+room-short bytes out h = rw (lt-leb (length bytes) (length out) h) (refl, refl)
+
+pub all-at : {P : ℕ → Type 0} {vs : List ℕ} → All P vs → (i : ℕ) → i < length vs → P (getD vs i 0)
+all-at none i h = absurd (omega arith)
+all-at (also p ps) zero h = p
+all-at (also p ps) (suc i) h = all-at ps i (omega arith)
+
+pub all-from : (P : Rule → Type 0) (f : ℕ → Rule) (i n : ℕ) → All P (map f (from i n)) → (j : ℕ) → j < n → P (f (i + j))
+unfolding from
+all-from P f i zero ps j h = absurd (omega arith)
+all-from P f i (suc n) (also p ps) zero h = rw add-zero p
+all-from P f i (suc n) (also p ps) (suc j) h = rw (add-suc, ← suc-add) (all-from P f (suc i) n ps j (omega arith))
+
+module _ (size : Size) (finals ranks table : List ℕ) where
+  abbrev pub size-record : List ℕ
+  size-record = encodeRecord 1 (fields (size .states ∷ size .symbols ∷ size .rules ∷ []))
+
+  abbrev pub ranks-record : List ℕ
+  ranks-record = encodeRecord 2 (take (size .symbols) ranks)
+
+  abbrev pub finals-record : List ℕ
+  finals-record = encodeRecord 3 (fields (keep (member finals) (from 0 (size .states))))
+
+  abbrev pub rule-records : List ℕ
+  rule-records = encodeRules (map (ruleAt ranks table) (from 0 (size .rules)))
+
+  module _ (h : size .symbols ≤ length ranks) where
+    pub encode-records : encode (automatonIn size finals ranks table)
+        ≡ size-record ++ ranks-record ++ finals-record ++ rule-records
+    unfolding encode automatonIn
+    encode-records = rw (length-take-le (size .symbols) ranks h, length-map, length-from) (simp append-assoc)
+
+    length-first : length size-record ≡ 12
+    length-first = rw (length-record, length-fields)
+
+    length-two : length (size-record ++ ranks-record) ≡ 18 + size .symbols
+    length-two = rw (length-append, length-first, length-record, length-take-le (size .symbols) ranks h) (omega arith)
+
+    length-three : length (size-record ++ ranks-record ++ finals-record)
+        ≡ 24 + size .symbols + 2 * length (keep (member finals) (from 0 (size .states)))
+    length-three = rw (length-append, length-two, length-record, length-fields) (omega arith)
+
+    pub length-encode : length (encode (automatonIn size finals ranks table))
+        ≡ 24 + size .symbols + 2 * length (keep (member finals) (from 0 (size .states))) + length rule-records
+    length-encode = rw (encode-records, length-append, length-three)
+
+    -- The four parts, each written behind the one before.
+    pub over-records : (out : List ℕ) (count : ℕ) → count ≡ length (keep (member finals) (from 0 (size .states)))
+        → length (encode (automatonIn size finals ranks table)) ≤ length out → (a b c d : List ℕ)
+        → a ≡ over out 0 size-record → b ≡ over a 12 ranks-record → c ≡ over b (18 + size .symbols) finals-record
+        → d ≡ over c (24 + size .symbols + 2 * count) rule-records
+        → d ≡ over out 0 (encode (automatonIn size finals ranks table))
+    over-records out count e fits a b c d p q r s =
+        let one = length-first in
+        let two = length-two in
+        let three = length-three in
+        let all = length-encode in
+        rw encode-records
+        (over-then out 0 _ c _ _ d
+        (over-then out 0 _ b _ _ c
+        (over-then out 0 _ a _ _ b p q (omega arith) (omega (arith, length-append size-record ranks-record)))
+        r (omega arith) (omega (arith, length-append (size-record ++ ranks-record) finals-record)))
+        s (omega arith) (omega arith))
+
+  module _ (wf : WellFormed (automatonIn size finals ranks table)) where
+    pub few-states : size .states ≤ 256
+    unfolding automatonIn
+    few-states = wf .states
+
+    pub few-rules : size .rules ≤ 1024
+    unfolding automatonIn
+    few-rules = rw (length-map, length-from) at (wf .count)
+
+    pub row-fits : (i : ℕ) → i < size .rules → RowFits ranks table i
+    unfolding automatonIn ruleAt
+    row-fits i h =
+        let u : WellFormedRule (automatonIn size finals ranks table) (ruleAt ranks table i) =
+        rw zero-add at (all-from _ (ruleAt ranks table) 0 (size .rules) (wf .rules) i h) in
+        let symbol : ℕ = getD table (10 * i) 0 in
+        let known : symbol < length (take (size .symbols) ranks) = u .symbol in
+        let below : symbol < size .symbols = omega (arith, length-take (size .symbols) ranks) in
+        record {
+          symbol = omega (arith, wf .symbols);
+          rank = rw (getD-take (size .symbols) ranks symbol 0 below) at (all-at (wf .ranks) symbol known);
+        }

@@ -1,0 +1,71 @@
+-- `automaton::table::judge_rules` meets its contract: what is left is judged as the whole is.
+use borrow.Author.Needs.{needs}
+use native.Mathlib.Omega.{arith}
+use Prim.Native.Nat.{ℕ, suc, _-_, _<_}
+use mathlib.Core.Path.{_≡_, sym, ap, _∙_}
+use mathlib.Core.List.{List}
+use lib.ListN.{length, drop}
+use denote.Ref.{now}
+use Rattle.automaton.specs.Read.{found, passing}
+use Rattle.automaton.specs.Table.{judgeRules}
+use Rattle.automaton.specs.Answers.{placeOf, verdictOf}
+use Rattle.automaton.proofs.Scanning.{part-to-end}
+use Rattle.automaton.proofs.Judging.{nextRule, next-within, rules-refused, rules-next, rules-end}
+use Rattle.automaton.proofs.table.judge_rules.Statement.{statement}
+use Rattle.automaton.proofs.table.judge_rules.Tie as tie
+
+abbrev Inv-loop : tie.InvT-loop
+Inv-loop t n ranks k rest₀ left₀ rest left = passing (judgeRules n ranks k t) ≡ passing (judgeRules n ranks left rest)
+
+abbrev μ-loop : tie.MeasureT-loop
+μ-loop t n ranks k rest₀ left₀ rest left = left
+
+returns : tie.Need-returns Inv-loop μ-loop
+unfolding placeOf verdictOf
+returns c =
+    let l = c .before .before .before .before .before .loop in
+    sym
+    (l .inv
+    ∙ rules-refused _ _ _ (l .left) (c .before .before .before .before .loop-test .taken)
+    (sym (c .before .before .before .next-rule .ensures) ∙ ap placeOf (c .before .cause .given .1)))
+
+next-is : (c : tie.After-known-told2 Inv-loop μ-loop)
+    → let a = c .before .before .before .before .before .before .before .before .args in
+    let l = c .before .before .before .before .before .loop in
+    nextRule (a .n) (now (a .ranks)) (now (l .rest)) ≡ found (c .before .end .given .0 .0)
+unfolding placeOf
+next-is c = sym (c .before .before .before .next-rule .ensures) ∙ ap placeOf (c .before .end .given .1)
+
+part-rest-start : tie.Need-part-rest-start Inv-loop μ-loop
+part-rest-start c = next-within _ _ _ (next-is c)
+
+loop-again : tie.Need-loop-again Inv-loop μ-loop
+loop-again c =
+    let l = c .before .before .before .before .before .before .loop in
+    rw part-to-end (l .inv ∙ rules-next _ _ _ (l .left) (c .before .before .before .before .before .loop-test .taken) (next-is (c .before)))
+
+returns-2 : tie.Need-returns-2 Inv-loop μ-loop
+returns-2 c =
+    let l = c .before .before .loop in
+    let z : l .left ≡ 0 = omega arith in
+    c .judge-end .ensures ∙ sym (l .inv ∙ rw z (rules-end _ _ _))
+
+pub judge-rules-spec : {M : Type 1} → statement M
+judge-rules-spec =
+    tie.close
+    (tie.spec
+    Inv-loop
+    μ-loop
+    (λ c. search needs)
+    (λ c κs. search needs)
+    (λ c. search needs)
+    returns
+    (λ c. search needs)
+    part-rest-start
+    part-rest-start
+    (λ c. search needs)
+    (λ c. search needs)
+    (λ c. search needs)
+    loop-again
+    (λ c κs. search needs)
+    returns-2)

@@ -1,0 +1,21 @@
+-- `automaton::table::size_in` meets its contract: three numbers of two bytes.
+use borrow.Author.Needs.{needs}
+use Rattle.automaton.specs.Decoded.{sizeIn}
+use Rattle.automaton.proofs.table.size_in.Statement.{statement}
+use Rattle.automaton.proofs.table.size_in.Tie as tie
+
+returns : tie.Need-returns
+unfolding sizeIn
+returns c = rw (c .before .before .number2 .ensures, c .before .number22 .ensures, c .number23 .ensures)
+
+pub size-in-spec : {M : Type 1} → statement M
+size-in-spec =
+    tie.close
+    (tie.spec
+    (λ c κs. search needs)
+    (λ c. search needs)
+    (λ c κs. search needs)
+    (λ c. search needs)
+    (λ c κs. search needs)
+    (λ c. search needs)
+    returns)

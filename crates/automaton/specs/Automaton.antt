@@ -1,0 +1,34 @@
+-- A nondeterministic bottom-up tree automaton (document 01: "table"), and when one is well-formed.
+use Prim.Native.Nat.{ℕ, _≤_, _<_}
+use mathlib.Core.Path.{_≡_}
+use mathlib.Core.List.{List}
+use lib.ListN.{length, getD}
+use Rattle.automaton.specs.Lists.{All, Rising}
+
+-- symbol(children) → target
+pub record Rule : Type 0 where
+  pub symbol : ℕ
+  pub target : ℕ
+  pub children : List ℕ
+
+-- States and symbols are numbered from 0; symbol i has the rank that stands at i. Rules are numbered as they stand.
+pub record Automaton : Type 0 where
+  pub states : ℕ
+  pub ranks : List ℕ
+  pub finals : List ℕ
+  pub rules : List Rule
+
+pub record WellFormedRule (A : Automaton) (u : Rule) : Type 0 where
+  pub symbol : u .symbol < length (A .ranks)
+  pub arity : length (u .children) ≡ getD (A .ranks) (u .symbol) 0
+  pub target : u .target < A .states
+  pub children : All (λ (q : ℕ). q < A .states) (u .children)
+
+pub record WellFormed (A : Automaton) : Type 0 where
+  pub states : A .states ≤ 256
+  pub symbols : length (A .ranks) ≤ 256
+  pub ranks : All (λ (r : ℕ). r ≤ 8) (A .ranks)
+  pub finals : All (λ (q : ℕ). q < A .states) (A .finals)
+  pub rising : Rising (A .finals)
+  pub count : length (A .rules) ≤ 1024
+  pub rules : All (WellFormedRule A) (A .rules)

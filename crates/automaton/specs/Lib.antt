@@ -1,0 +1,10 @@
+pub mod Refusal
+pub mod Lists
+pub mod Bytes
+pub mod Record
+pub mod Automaton
+pub mod Read
+pub mod Table
+pub mod StateSet
+pub mod Decoded
+pub mod Answers

@@ -1,0 +1,38 @@
+-- Lists of numbers: tests of all elements, rising lists, ranges.
+use Prim.Native.Nat.{ℕ, zero, suc, _<_}
+use mathlib.Core.List.{List, [], _∷_}
+use mathlib.Core.Bool.{Bool, true, false, cond, _&&_}
+use lib.Dec.{ltb}
+
+pub data All {A : Type 0} (P : A → Type 0) : List A → Type 0 where
+  none : All P []
+  also : {x : A} {xs : List A} → P x → All P xs → All P (x ∷ xs)
+
+-- Each number is above the one before it.
+pub data Rising : List ℕ → Type 0 where
+  empty : Rising []
+  single : {a : ℕ} → Rising (a ∷ [])
+  step : {a b : ℕ} {xs : List ℕ} → a < b → Rising (b ∷ xs) → Rising (a ∷ (b ∷ xs))
+
+-- The same two as tests.
+unfoldable pub all : (ℕ → Bool) → List ℕ → Bool
+all test [] = true
+all test (x ∷ xs) = test x && all test xs
+
+unfoldable pub risingFrom : ℕ → List ℕ → Bool
+risingFrom a [] = true
+risingFrom a (b ∷ xs) = ltb a b && risingFrom b xs
+
+unfoldable pub rising : List ℕ → Bool
+rising [] = true
+rising (a ∷ xs) = risingFrom a xs
+
+-- n numbers from i on.
+unfoldable pub from : ℕ → ℕ → List ℕ
+from i zero = []
+from i (suc n) = i ∷ from (suc i) n
+
+-- The elements that pass a test, in order.
+unfoldable pub keep : (ℕ → Bool) → List ℕ → List ℕ
+keep test [] = []
+keep test (x ∷ xs) = cond (test x) (x ∷ keep test xs) (keep test xs)

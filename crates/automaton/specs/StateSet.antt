@@ -1,0 +1,38 @@
+-- A set of states: four 64-bit words, state q at bit q mod 64 of word q div 64.
+use Prim.Native.Nat.{ℕ, _/_, _%_, _^_}
+use mathlib.Core.List.{List, [], _∷_}
+use mathlib.Core.Bool.{Bool, cond}
+use lib.ListN.{getD}
+use lib.Bits.{bitOr, bitXor}
+use lib.Dec.{eqb}
+
+unfoldable pub member : List ℕ → ℕ → Bool
+member ws q = eqb (getD ws (q / 64) 0 / 2 ^ (q % 64) % 2) 1
+
+unfoldable pub words : (ℕ → ℕ) → List ℕ
+words f = f 0 ∷ f 1 ∷ f 2 ∷ f 3 ∷ []
+
+unfoldable pub emptySet : List ℕ
+emptySet = words (λ (i : ℕ). 0)
+
+-- Word i replaced by w.
+unfoldable pub replaced : List ℕ → ℕ → ℕ → List ℕ
+replaced ws i w = words (λ (j : ℕ). cond (eqb j i) w (getD ws j 0))
+
+unfoldable pub withState : List ℕ → ℕ → List ℕ
+withState ws q = replaced ws (q / 64) (bitOr (getD ws (q / 64) 0) (2 ^ (q % 64)))
+
+-- The bit is set and then flipped.
+unfoldable pub withoutState : List ℕ → ℕ → List ℕ
+withoutState ws q = replaced ws (q / 64) (bitXor (bitOr (getD ws (q / 64) 0) (2 ^ (q % 64))) (2 ^ (q % 64)))
+
+unfoldable pub unionOf : List ℕ → List ℕ → List ℕ
+unionOf ws vs = words (λ (i : ℕ). bitOr (getD ws i 0) (getD vs i 0))
+
+-- The states of a list added one after the other.
+unfoldable pub withAll : List ℕ → List ℕ → List ℕ
+withAll ws [] = ws
+withAll ws (q ∷ qs) = withAll (withState ws q) qs
+
+unfoldable pub setOf : List ℕ → List ℕ
+setOf qs = withAll emptySet qs

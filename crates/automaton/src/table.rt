@@ -1,0 +1,256 @@
+// Tables: judged record by record, and decoded into arrays.
+ghost use mathlib.Core.Path.{_≡_};
+ghost use mathlib.Core.List.{[]};
+ghost use Prim.Native.Nat.{ℕ, _≤_};
+ghost use lib.ListN.{length};
+ghost use lib.Dec.{leb, ltb};
+ghost use Rattle.automaton.specs.Refusal.{numberOf};
+ghost use Rattle.automaton.specs.Lists as lists;
+ghost use Rattle.automaton.specs.Bytes.{numbers};
+ghost use Rattle.automaton.specs.Read as read;
+ghost use Rattle.automaton.specs.Read.{passing};
+ghost use Rattle.automaton.specs.Record.{bodyOf};
+ghost use Rattle.automaton.specs.Table as table;
+ghost use Rattle.automaton.specs.Answers.{placeOf, verdictOf, judgementOf};
+ghost use Rattle.automaton.specs.Decoded.{sizeIn, sized};
+use crate::bytes::number2;
+use crate::record::Opened;
+use crate::record::body;
+use crate::record::open;
+use crate::refusal::Refusal;
+use crate::set::StateSet;
+
+// The counts of a table: n, m and k.
+pub struct Size {
+    pub states: usize,
+    pub symbols: usize,
+    pub rules: usize,
+}
+
+pub enum Judged {
+    Table(Size),
+    Refused(Refusal),
+}
+
+// Where a record ends, or the refusal.
+pub enum Place {
+    At(usize),
+    Refused(Refusal),
+}
+
+// Whether a part of a table passes.
+pub enum Verdict {
+    Passed,
+    Refused(Refusal),
+}
+
+// Where the next record ends, if it is of the kind that is due; `missing` where nothing is left.
+pub fn due(t: &[u8], kind: u16, missing: Refusal) -> Place
+    ensures { λ r. ⌜ placeOf r ≡ table.due kind (numberOf missing) (now (t .entry)) ⌝ }
+{
+    let o = open(t);
+    let Opened::Record { kind: k, end } = o else {
+        if let Opened::Refused(cause) = o {
+            return Place::Refused(cause);
+        }
+        return Place::Refused(missing);
+    };
+    if k != kind {
+        return Place::Refused(Refusal::Kind);
+    }
+    Place::At(end)
+}
+
+// Whether all two-byte numbers of `b` are below n.
+fn all_below(b: &[u8], n: usize) -> bool
+    ensures { λ r. ⌜ r ≡ lists.all (λ (q : ℕ). ltb q n) (numbers (now (b .entry))) ⌝ }
+{
+    let mut i: usize = 0;
+    while i + 1 < b.len() {
+        if number2(b, i) as usize >= n {
+            return false;
+        }
+        i += 2;
+    }
+    true
+}
+
+// Whether the two-byte numbers of `b` are strictly increasing.
+fn rising(b: &[u8]) -> bool
+    ensures { λ r. ⌜ r ≡ lists.rising (numbers (now (b .entry))) ⌝ }
+{
+    if b.len() < 2 {
+        return true;
+    }
+    let mut last = number2(b, 0);
+    let mut i: usize = 2;
+    while i + 1 < b.len() {
+        let q = number2(b, i);
+        if q <= last {
+            return false;
+        }
+        last = q;
+        i += 2;
+    }
+    true
+}
+
+// Whether all bytes of `b` are at most 8.
+fn all_ranks(b: &[u8]) -> bool
+    ensures { λ r. ⌜ r ≡ lists.all (λ (x : ℕ). leb x 8) (now (b .entry)) ⌝ }
+{
+    let mut i: usize = 0;
+    while i < b.len() {
+        if b[i] > 8 {
+            return false;
+        }
+        i += 1;
+    }
+    true
+}
+
+// A rule's body.
+fn judge_rule(b: &[u8], n: usize, ranks: &[u8]) -> Verdict
+    ensures { λ r. ⌜ verdictOf r ≡ passing (table.judgeRule n (now (ranks .entry)) (now (b .entry))) ⌝ }
+{
+    if b.len() < 4 {
+        return Verdict::Refused(Refusal::Length);
+    }
+    let symbol = number2(b, 0) as usize;
+    if symbol >= ranks.len() {
+        return Verdict::Refused(Refusal::Range);
+    }
+    let rank = ranks[symbol] as usize;
+    if b.len() != 4 + 2 * rank {
+        return Verdict::Refused(Refusal::Length);
+    }
+    if !all_below(&b[2..], n) {
+        return Verdict::Refused(Refusal::Range);
+    }
+    Verdict::Passed
+}
+
+// The next rule: where it ends.
+fn next_rule(t: &[u8], n: usize, ranks: &[u8]) -> Place
+    ensures { λ r. ⌜ placeOf r ≡ read._>>=_ (table.due 4 7 (now (t .entry)))
+        (λ (end : ℕ). read._>>_ (table.judgeRule n (now (ranks .entry)) (bodyOf (now (t .entry)))) (read.found end)) ⌝ }
+{
+    let p = due(t, 4, Refusal::Count);
+    let Place::At(end) = p else {
+        return p;
+    };
+    match judge_rule(body(t), n, ranks) {
+        Verdict::Refused(cause) => Place::Refused(cause),
+        Verdict::Passed => Place::At(end),
+    }
+}
+
+// What stands behind the last rule: nothing, or a cause of refusal.
+fn judge_end(t: &[u8]) -> Verdict
+    ensures { λ r. ⌜ verdictOf r ≡ passing (table.judgeRules 0 [] 0 (now (t .entry))) ⌝ }
+{
+    if t.len() == 0 {
+        return Verdict::Passed;
+    }
+    match due(t, 4, Refusal::Count) {
+        Place::Refused(cause) => Verdict::Refused(cause),
+        Place::At(_) => Verdict::Refused(Refusal::Count),
+    }
+}
+
+// k rules, and nothing behind them.
+fn judge_rules(t: &[u8], n: usize, ranks: &[u8], k: usize) -> Verdict
+    ensures { λ r. ⌜ verdictOf r ≡ passing (table.judgeRules n (now (ranks .entry)) k (now (t .entry))) ⌝ }
+{
+    let mut rest = t;
+    let mut left = k;
+    while left > 0 {
+        match next_rule(rest, n, ranks) {
+            Place::Refused(cause) => return Verdict::Refused(cause),
+            Place::At(end) => {
+                rest = &rest[end..];
+                left -= 1;
+            }
+        }
+    }
+    judge_end(rest)
+}
+
+// The record of the final states, and the rules behind it.
+fn judge_finals(t: &[u8], n: usize, ranks: &[u8], k: usize) -> Verdict
+    ensures { λ r. ⌜ verdictOf r ≡ passing (table.judgeFinals n (now (ranks .entry)) k (now (t .entry))) ⌝ }
+{
+    let end = match due(t, 3, Refusal::Kind) {
+        Place::Refused(cause) => return Verdict::Refused(cause),
+        Place::At(end) => end,
+    };
+    let b = body(t);
+    if b.len() % 2 != 0 {
+        return Verdict::Refused(Refusal::Length);
+    }
+    if !all_below(b, n) {
+        return Verdict::Refused(Refusal::Range);
+    }
+    if !rising(b) {
+        return Verdict::Refused(Refusal::Order);
+    }
+    judge_rules(&t[end..], n, ranks, k)
+}
+
+// The record of the ranks, and what is behind it.
+fn judge_ranks(t: &[u8], size: Size) -> Verdict
+    ensures { λ r. ⌜ verdictOf r ≡ passing (table.judgeRanks (size .states) (size .symbols) (size .rules) (now (t .entry))) ⌝ }
+{
+    let end = match due(t, 2, Refusal::Kind) {
+        Place::Refused(cause) => return Verdict::Refused(cause),
+        Place::At(end) => end,
+    };
+    let ranks = body(t);
+    if ranks.len() != size.symbols {
+        return Verdict::Refused(Refusal::Length);
+    }
+    if !all_ranks(ranks) {
+        return Verdict::Refused(Refusal::Limit);
+    }
+    judge_finals(&t[end..], size.states, ranks, size.rules)
+}
+
+// Judges a table: its counts, or the first cause of refusal in document 01's order. Answers for any bytes.
+pub fn judge(t: &[u8]) -> Judged
+    ensures { λ r. ⌜ judgementOf r ≡ sized (table.judge (now (t .entry))) ⌝ }
+{
+    let end = match due(t, 1, Refusal::Kind) {
+        Place::Refused(cause) => return Judged::Refused(cause),
+        Place::At(end) => end,
+    };
+    let b = body(t);
+    if b.len() != 6 {
+        return Judged::Refused(Refusal::Length);
+    }
+    let size = size_in(b);
+    if size.states > 256 {
+        return Judged::Refused(Refusal::Limit);
+    }
+    if size.symbols > 256 {
+        return Judged::Refused(Refusal::Limit);
+    }
+    if size.rules > 1024 {
+        return Judged::Refused(Refusal::Limit);
+    }
+    match judge_ranks(&t[end..], size) {
+        Verdict::Refused(cause) => Judged::Refused(cause),
+        Verdict::Passed => Judged::Table(size),
+    }
+}
+
+// The counts in the first record's body.
+fn size_in(b: &[u8]) -> Size
+    requires { ⌜ 6 ≤ length (now b) ⌝ }
+    ensures { λ r. ⌜ r ≡ sizeIn (now (b .entry)) ⌝ }
+{
+    Size {
+        states: number2(b, 0) as usize,
+        symbols: number2(b, 2) as usize,
+        rules: number2(b, 4) as usize,
+    }
+}

@@ -1,0 +1,227 @@
+// A decoded table written back into bytes. Each function that writes says which bytes stand where afterwards; the others stay.
+ghost use mathlib.Core.Path.{_≡_};
+ghost use mathlib.Core.List.{_∷_, [], _++_, map};
+ghost use Prim.Native.Nat.{ℕ, _+_, _*_, _≤_, _<_};
+ghost use lib.ListN.{length, take, drop};
+ghost use Rattle.automaton.specs.Lists.{from, keep};
+ghost use Rattle.automaton.specs.Bytes.{bytes2, bytes4, fields};
+ghost use Rattle.automaton.specs.Record.{encodeRecord};
+ghost use Rattle.automaton.specs.Automaton.{WellFormed};
+ghost use Rattle.automaton.specs.Table.{encode, encodeRule, encodeRules};
+ghost use Rattle.automaton.specs.StateSet.{member};
+ghost use Rattle.automaton.specs.Decoded as decoded;
+ghost use Rattle.automaton.specs.Answers.{writingOf};
+use crate::refusal::Refusal;
+use crate::set::StateSet;
+use crate::table::Size;
+
+// The length that was written, or the refusal.
+pub enum Written {
+    Bytes(usize),
+    Refused(Refusal),
+}
+
+// Two bytes from `at` on.
+fn put2(out: &mut [u8], at: usize, v: u16)
+    requires { ⌜ at + 2 ≤ length (now out) ⌝ }
+    ensures { λ _. ⌜ now (out .exit) ≡ decoded.over (now (out .entry)) at (bytes2 v) ⌝ }
+{
+    out[at] = (v % 256) as u8;
+    out[at + 1] = (v / 256 % 256) as u8;
+}
+
+// The length and the kind of a record whose body has `size` bytes.
+fn put_head(out: &mut [u8], at: usize, kind: u16, size: usize)
+    requires { ⌜ at + 6 ≤ length (now out) ⌝ }
+    requires { ⌜ size ≤ 65535 ⌝ }
+    ensures { λ _. ⌜ now (out .exit) ≡ decoded.over (now (out .entry)) at (bytes4 (2 + size) ++ bytes2 kind) ⌝ }
+{
+    let length = 2 + size;
+    put2(out, at, (length % 65536) as u16);
+    put2(out, at + 2, (length / 65536) as u16);
+    put2(out, at + 4, kind);
+}
+
+// `count` numbers of `src` from index `start` on, two bytes each.
+fn put_fields(out: &mut [u8], at: usize, src: &[u16], start: usize, count: usize)
+    requires { ⌜ at + 2 * count ≤ length (now out) ⌝ }
+    requires { ⌜ start + count ≤ length (now src) ⌝ }
+    ensures { λ _. ⌜ now (out .exit) ≡ decoded.over (now (out .entry)) at (fields (take count (drop start (now (src .entry))))) ⌝ }
+{
+    let mut j: usize = 0;
+    while j < count {
+        put2(out, at + 2 * j, src[start + j]);
+        j += 1;
+    }
+}
+
+// The first `count` bytes of `src`.
+fn put_bytes(out: &mut [u8], at: usize, src: &[u8], count: usize)
+    requires { ⌜ at + count ≤ length (now out) ⌝ }
+    requires { ⌜ count ≤ length (now src) ⌝ }
+    ensures { λ _. ⌜ now (out .exit) ≡ decoded.over (now (out .entry)) at (take count (now (src .entry))) ⌝ }
+{
+    let mut j: usize = 0;
+    while j < count {
+        out[at + j] = src[j];
+        j += 1;
+    }
+}
+
+// State q as two bytes if it is in the set; the answer is where the next one goes.
+fn put_state(out: &mut [u8], at: usize, set: StateSet, q: usize) -> usize
+    requires { ⌜ q < 256 ⌝ }
+    requires { ⌜ at + length (fields (keep (member (set .words)) (q ∷ []))) ≤ length (now out) ⌝ }
+    ensures { λ r. ⌜ r ≡ at + length (fields (keep (member (set .words)) (q ∷ []))) ⌝ }
+    ensures { λ r. ⌜ now (out .exit) ≡ decoded.over (now (out .entry)) at (fields (keep (member (set .words)) (q ∷ []))) ⌝ }
+{
+    if !set.has(q) {
+        return at;
+    }
+    put2(out, at, q as u16);
+    at + 2
+}
+
+// The states below n that are in the set, in order.
+fn put_states(out: &mut [u8], at: usize, set: StateSet, n: usize)
+    requires { ⌜ n ≤ 256 ⌝ }
+    requires { ⌜ at + length (fields (keep (member (set .words)) (from 0 n))) ≤ length (now out) ⌝ }
+    ensures { λ _. ⌜ now (out .exit) ≡ decoded.over (now (out .entry)) at (fields (keep (member (set .words)) (from 0 n))) ⌝ }
+{
+    let mut next = at;
+    let mut q: usize = 0;
+    while q < n {
+        next = put_state(out, next, set, q);
+        q += 1;
+    }
+}
+
+// How many states below n are in the set.
+fn count_states(set: StateSet, n: usize) -> usize
+    requires { ⌜ n ≤ 256 ⌝ }
+    ensures { λ r. ⌜ r ≡ length (keep (member (set .words)) (from 0 n)) ⌝ }
+{
+    let mut count: usize = 0;
+    let mut q: usize = 0;
+    while q < n {
+        if set.has(q) {
+            count += 1;
+        }
+        q += 1;
+    }
+    count
+}
+
+// Rule i as a record; the answer is where the next one goes.
+fn put_rule(out: &mut [u8], at: usize, ranks: &[u8; 256], rows: &[u16; 10240], i: usize) -> usize
+    requires { ⌜ i < 1024 ⌝ }
+    requires { ⌜ decoded.RowFits (now ranks) (now rows) i ⌝ }
+    requires { ⌜ at + length (encodeRule (decoded.ruleAt (now ranks) (now rows) i)) ≤ length (now out) ⌝ }
+    ensures { λ r. ⌜ r ≡ at + length (encodeRule (decoded.ruleAt (now (ranks .entry)) (now (rows .entry)) i)) ⌝ }
+    ensures { λ r. ⌜ now (out .exit) ≡ decoded.over (now (out .entry)) at (encodeRule (decoded.ruleAt (now (ranks .entry)) (now (rows .entry)) i)) ⌝ }
+{
+    let symbol = rows[10 * i] as usize;
+    let rank = ranks[symbol] as usize;
+    put_head(out, at, 4, 4 + 2 * rank);
+    put_fields(out, at + 6, rows, 10 * i, 2 + rank);
+    at + 10 + 2 * rank
+}
+
+// How many bytes k rules take.
+fn rules_length(ranks: &[u8], rows: &[u16], k: usize) -> usize
+    requires { ⌜ k ≤ 1024 ⌝ }
+    requires { ⌜ (256 ≤ length (now ranks)) × (10 * k ≤ length (now rows)) ⌝ }
+    requires { ⌜ ((i : ℕ) → i < k → decoded.RowFits (now ranks) (now rows) i) ⌝ }
+    ensures { λ r. ⌜ r ≡ length (encodeRules (map (decoded.ruleAt (now (ranks .entry)) (now (rows .entry))) (from 0 k))) ⌝ }
+    ensures { λ r. ⌜ r ≤ 26 * k ⌝ }
+{
+    let mut total: usize = 0;
+    let mut i: usize = 0;
+    while i < k {
+        let symbol = rows[10 * i] as usize;
+        total += 10 + 2 * (ranks[symbol] as usize);
+        i += 1;
+    }
+    total
+}
+
+// k rules, one behind the other.
+fn put_rules(out: &mut [u8], at: usize, ranks: &[u8; 256], rows: &[u16; 10240], k: usize)
+    requires { ⌜ k ≤ 1024 ⌝ }
+    requires { ⌜ ((i : ℕ) → i < k → decoded.RowFits (now ranks) (now rows) i) ⌝ }
+    requires { ⌜ at + length (encodeRules (map (decoded.ruleAt (now ranks) (now rows)) (from 0 k))) ≤ length (now out) ⌝ }
+    ensures { λ _. ⌜ now (out .exit) ≡ decoded.over (now (out .entry)) at
+        (encodeRules (map (decoded.ruleAt (now (ranks .entry)) (now (rows .entry))) (from 0 k))) ⌝ }
+{
+    let mut next = at;
+    let mut i: usize = 0;
+    while i < k {
+        next = put_rule(out, next, ranks, rows, i);
+        i += 1;
+    }
+}
+
+// The first record: the counts.
+fn put_size(out: &mut [u8], size: Size)
+    requires { ⌜ 12 ≤ length (now out) ⌝ }
+    requires { ⌜ (size .states ≤ 256) × ((size .symbols ≤ 256) × (size .rules ≤ 1024)) ⌝ }
+    ensures { λ _. ⌜ now (out .exit) ≡ decoded.over (now (out .entry)) 0
+        (encodeRecord 1 (fields (size .states ∷ size .symbols ∷ size .rules ∷ []))) ⌝ }
+{
+    put_head(out, 0, 1, 6);
+    put2(out, 6, size.states as u16);
+    put2(out, 8, size.symbols as u16);
+    put2(out, 10, size.rules as u16);
+}
+
+// The second record: the ranks of m symbols.
+fn put_ranks(out: &mut [u8], at: usize, ranks: &[u8; 256], m: usize)
+    requires { ⌜ m ≤ 256 ⌝ }
+    requires { ⌜ at + 6 + m ≤ length (now out) ⌝ }
+    ensures { λ _. ⌜ now (out .exit) ≡ decoded.over (now (out .entry)) at (encodeRecord 2 (take m (now (ranks .entry)))) ⌝ }
+{
+    put_head(out, at, 2, m);
+    put_bytes(out, at + 6, ranks, m);
+}
+
+// The third record: the states below n that are in the set, of which there are `count`.
+fn put_finals(out: &mut [u8], at: usize, set: StateSet, n: usize, count: usize)
+    requires { ⌜ n ≤ 256 ⌝ }
+    requires { ⌜ count ≡ length (keep (member (set .words)) (from 0 n)) ⌝ }
+    requires { ⌜ at + 6 + 2 * count ≤ length (now out) ⌝ }
+    ensures { λ _. ⌜ now (out .exit) ≡ decoded.over (now (out .entry)) at
+        (encodeRecord 3 (fields (keep (member (set .words)) (from 0 n)))) ⌝ }
+{
+    put_head(out, at, 3, 2 * count);
+    put_states(out, at + 6, set, n);
+}
+
+// Writes a decoded table to the start of `out` and answers its length; refusal 13, and nothing written, where the room is short.
+pub fn write(
+    size: Size,
+    finals: StateSet,
+    ranks: &[u8; 256],
+    rows: &[u16; 10240],
+    out: &mut [u8],
+) -> Written
+    requires { ⌜ size .symbols ≤ 256 ⌝ }
+    requires { ⌜ WellFormed (decoded.automatonIn size (finals .words) (now ranks) (now rows)) ⌝ }
+    ensures { λ r. ⌜ writingOf r ≡ decoded.written
+        (encode (decoded.automatonIn size (finals .words) (now (ranks .entry)) (now (rows .entry)))) (now (out .entry)) ⌝ }
+    ensures { λ r. ⌜ now (out .exit) ≡ decoded.writtenOver
+        (encode (decoded.automatonIn size (finals .words) (now (ranks .entry)) (now (rows .entry)))) (now (out .entry)) ⌝ }
+{
+    let n = size.states;
+    let m = size.symbols;
+    let k = size.rules;
+    let count = count_states(finals, n);
+    let length = 24 + m + 2 * count + rules_length(ranks, rows, k);
+    if out.len() < length {
+        return Written::Refused(Refusal::Room);
+    }
+    put_size(out, size);
+    put_ranks(out, 12, ranks, m);
+    put_finals(out, 18 + m, finals, n, count);
+    put_rules(out, 24 + m + 2 * count, ranks, rows, k);
+    Written::Bytes(length)
+}
