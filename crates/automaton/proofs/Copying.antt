@@ -9,11 +9,12 @@ use lib.ListN.{length, take, drop, getD, set, length-append}
 use lib.Seq.{paste, paste-suc, take-length, take-at, drop-at, drop-drop}
 use Rattle.automaton.specs.Bytes.{numbers}
 use Rattle.automaton.specs.Record as records
-use Rattle.automaton.specs.Record.{Opening, whole, nothing, opened, bodyOf, endIn, firstEnd, restOf}
+use Rattle.automaton.specs.Record.{Opening, whole, nothing, opened, bodyOf}
 use Rattle.automaton.specs.Automaton.{Rule}
 use Rattle.automaton.specs.Read.{found}
 use Rattle.automaton.specs.Table.{ruleIn, judgeRule, judgeRules}
-use Rattle.automaton.specs.Decoded.{padded, row, rows, over}
+use Rattle.automaton.specs.Decoded.{padded, row, rows}
+use Rattle.automaton.specs.Inner.{endIn, firstEnd, restOf, over}
 use Rattle.automaton.proofs.Opening.{opened-within, rest-behind}
 use Rattle.automaton.proofs.Fields.{numbers-step}
 use Rattle.automaton.proofs.Scanning.{part-to-end}
@@ -83,7 +84,7 @@ rule-row n ranks body h =
 
 -- The rows of rules, one behind the other.
 
-length-row : (u : Rule) → length (row u) ≡ 10
+pub length-row : (u : Rule) → length (row u) ≡ 10
 unfolding row
 length-row u = length-padded 10 (u .symbol ∷ u .target ∷ u .children)
 

@@ -11,6 +11,7 @@ use Rattle.automaton.specs.Automaton.{Rule, Automaton, WellFormedRule, W
 use Rattle.automaton.specs.Read.{found}
 use Rattle.automaton.specs.Table.{ruleIn, judgeRule, judgeRules, judgeFinals, judgeRanks, judge}
 use Rattle.automaton.specs.Table.{encodeRule, encodeRules, encode}
+use Rattle.automaton.proofs.Elements.{all-map, all-at, all-first, all-rest}
 use Rattle.automaton.proofs.Fields.{Bytes, bytes-none, bytes-also, bytes-drop, bytes-fields}
 use Rattle.automaton.proofs.Fields.{numbers-step, numbers-end, length-numbers, fields-numbers, numbers-fields}
 use Rattle.automaton.proofs.Fields.{first-field, drop-field, drop-two-fields, length-fields}
@@ -19,12 +20,6 @@ use Rattle.automaton.proofs.Records.{record-opens, record-body, record-
 use Rattle.automaton.proofs.Inversion.{RuleFound, rule-found, no-rules-found, rules-found, finals-found}
 use Rattle.automaton.proofs.Inversion.{ranks-found, table-found, judge-sized, judge-parts}
 use Rattle.automaton.proofs.Inversion.{rule-finds, rules-finds, finals-finds, ranks-finds, table-finds}
-
-pub all-first : {A : Type 0} {P : A → Type 0} {x : A} {xs : List A} → All P (x ∷ xs) → P x
-all-first (also p ps) = p
-
-pub all-rest : {A : Type 0} {P : A → Type 0} {x : A} {xs : List A} → All P (x ∷ xs) → All P xs
-all-rest (also p ps) = ps
 
 -- What is judged is well-formed.
 
@@ -123,15 +118,6 @@ encode-judge b A h e =
     fields-encoded b _ _ (t .opens) h (omega arith) (cc (three-numbers (bodyOf b) (t .size))) in-ranks
 
 -- How long the lists of a well-formed automaton are.
-
-pub all-at : {P : ℕ → Type 0} {xs : List ℕ} → All P xs → (i : ℕ) → i < length xs → P (getD xs i 0)
-all-at none i h = absurd (omega arith)
-all-at (also p ps) zero h = p
-all-at (also p ps) (suc i) h = all-at ps i (omega arith)
-
-pub all-map : {A : Type 0} {P Q : A → Type 0} {xs : List A} → ((x : A) → P x → Q x) → All P xs → All Q xs
-all-map f none = none
-all-map f (also p ps) = also (f _ p) (all-map f ps)
 
 rising-count : {n a : ℕ} {xs : List ℕ} → Rising (a ∷ xs) → All (λ (q : ℕ). q < n) (a ∷ xs) → a + length (a ∷ xs) ≤ n
 rising-count single (also h hs) = omega arith

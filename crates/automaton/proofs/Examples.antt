@@ -1,11 +1,11 @@
--- Document 01's bench table, computed: its bytes, its judgement, and the shortest table.
+-- Document 01's bench table, computed: its bytes and its judgement; the shortest and the longest table.
 use Prim.Native.Nat.{ℕ}
 use mathlib.Core.Path.{_≡_, refl}
 use mathlib.Core.List.{List, [], _∷_, _++_}
-use lib.ListN.{length, take}
+use lib.ListN.{length, take, replicate}
 use Rattle.automaton.specs.Automaton.{Rule, Automaton}
 use Rattle.automaton.specs.Read.{Read, found, refused, _>>=_, _>>_, check}
-use Rattle.automaton.specs.Lists.{all, rising, risingFrom}
+use Rattle.automaton.specs.Lists.{all, rising, risingFrom, from}
 use Rattle.automaton.specs.Bytes.{number2, number4, numbers, bytes2, bytes4, fields}
 use Rattle.automaton.specs.Record.{endOf, isWhole, opened, bodyIn, bodyOf, encodeRecord}
 use Rattle.automaton.specs.Table.{dueIn, due, ruleIn, judgeRule, judgeRules, judgeFinals, judgeRanks, judge, encodeRule, encodeRules, encode}
@@ -38,3 +38,22 @@ T-judged = refl
 T-cut : judge (take 124 (encode T)) ≡ refused 1
 unfolding encode encodeRules encodeRule encodeRecord fields bytes2 bytes4 judge judgeRanks judgeFinals judgeRules judgeRule ruleIn due dueIn opened isWhole endOf bodyIn bodyOf number2 number4 numbers all rising risingFrom _>>=_ _>>_ check
 T-cut = refl
+
+shortest : Automaton
+shortest = record { states = 0; ranks = []; finals = []; rules = [] }
+
+shortest-length : length (encode shortest) ≡ 24
+unfolding shortest encode encodeRules encodeRecord fields bytes2 bytes4
+shortest-length = refl
+
+longest : Automaton
+longest = record {
+  states = 256;
+  ranks = replicate 256 8;
+  finals = from 0 256;
+  rules = replicate 1024 (rule 255 255 (replicate 8 255));
+}
+
+longest-length : length (encode longest) ≡ 27416
+unfolding longest from encode encodeRules encodeRule encodeRecord fields bytes2 bytes4
+longest-length = refl

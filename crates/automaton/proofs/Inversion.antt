@@ -10,15 +10,16 @@ use borrow.Author.Tests.{ltb-true, leb-true, eqb-true, lt-ltb, le-leb, eq-eqb}
 use Rattle.automaton.specs.Lists.{All, none, also, Rising, empty, single, step, all, rising, risingFrom}
 use Rattle.automaton.specs.Bytes.{number2, numbers}
 use Rattle.automaton.specs.Record as records
-use Rattle.automaton.specs.Record.{Opening, whole, nothing, opened, bodyOf, restOf}
+use Rattle.automaton.specs.Record.{Opening, whole, nothing, opened, bodyOf}
 use Rattle.automaton.specs.Automaton.{Rule, Automaton}
 use Rattle.automaton.specs.Read.{Read, found, refused, _>>=_, _>>_, check}
 use Rattle.automaton.proofs.Opening.{rest-behind}
 use Rattle.automaton.specs.Table.{dueIn, due, ruleIn, judgeRule, judgeRules, judgeFinals, judgeRanks, judge}
+use Rattle.automaton.specs.Inner.{restOf}
 
 -- Steps.
 
-refused≢found : {A : Type 0} {cause : ℕ} {a : A} → refused cause ≡ found a → ⊥
+pub refused≢found : {A : Type 0} {cause : ℕ} {a : A} → refused cause ≡ found a → ⊥
 refused≢found h = let z : _≡_ {A = ℕ} 0 1 = cc in omega arith
 
 pub bind-found :

@@ -11,14 +11,12 @@ use Rattle.automaton.specs.Lists.{all, rising}
 use Rattle.automaton.specs.Bytes.{number2, numbers}
 use Rattle.automaton.specs.Record.{bodyOf}
 use Rattle.automaton.specs.Automaton.{Rule, Automaton}
-use Rattle.automaton.specs.Read.{Read, found, refused, _>>=_, _>>_, check, mapRead, passing}
-use Rattle.automaton.specs.Decoded.{sizeOf, sizeIn, sized}
+use Rattle.automaton.specs.Read.{Read, found, refused, _>>=_, _>>_, check, mapRead}
+use Rattle.automaton.specs.Decoded.{sizeOf, sized}
 use Rattle.automaton.proofs.Opening.{opened-within}
-use Rattle.automaton.proofs.Inversion.{due-found, ranks-sized}
+use Rattle.automaton.proofs.Inversion.{refused≢found, due-found, ranks-sized}
 use Rattle.automaton.specs.Table.{due, judgeRule, judgeRules, judgeFinals, judgeRanks, judge}
-
-pub refused≢found : {A : Type 0} {cause : ℕ} {a : A} → refused cause ≡ found a → ⊥
-refused≢found h = let z : _≡_ {A = ℕ} 0 1 = cc in omega arith
+use Rattle.automaton.specs.Inner.{passing, sizeIn}
 
 same-cause : {A B : Type 0} {c d : ℕ} → _≡_ {A = Read A} (refused c) (refused d) → _≡_ {A = Read B} (refused c) (refused d)
 same-cause {c = c} {d = d} h = let e : c ≡ d = cc in ap refused e

@@ -1,4 +1,5 @@
 pub mod Examples
+pub mod Elements
 pub mod Opening
 pub mod Fields
 pub mod Scanning

@@ -10,21 +10,18 @@ use Rattle.automaton.specs.Lists.{All, none, also, from}
 use Rattle.automaton.specs.Automaton.{Rule, Automaton, WellFormed, WellFormedRule}
 use Rattle.automaton.specs.StateSet.{setOf}
 use Rattle.automaton.specs.Read.{Read, found, refused, mapRead}
-use Rattle.automaton.specs.Table.{judge}
+use Rattle.automaton.specs.Table.{judge, encode}
 use Rattle.automaton.specs.Decoded.{sizeOf, sized, finalsOf, padded, row, rows, ranksAfter, rowsAfter, ruleAt, automatonIn, Decodes}
 use Rattle.automaton.specs.Answers.{judgementOf}
 use Rattle.automaton.specs.declared.table.Size.{Size}
 use Rattle.automaton.specs.declared.table.Judged.the-variants.{Table}
 use Rattle.automaton.specs.declared.decoding.Decoded.{Decoded}
-use Rattle.automaton.proofs.Judging.{refused≢found}
-use Rattle.automaton.proofs.Encoding.{judge-well-formed, all-at}
+use Rattle.automaton.proofs.Inversion.{refused≢found}
+use Rattle.automaton.proofs.Encoding.{judge-well-formed, encode-judge}
+use Rattle.automaton.proofs.Elements.{all-at}
+use Rattle.automaton.proofs.Fields.{Bytes}
 use Rattle.automaton.proofs.StateSets.{states-of-set}
-
-pub length-padded : (n : ℕ) (xs : List ℕ) → length (padded n xs) ≡ n
-unfolding padded
-length-padded zero xs = refl
-length-padded (suc n) [] = ap suc (length-padded n [])
-length-padded (suc n) (x ∷ xs) = ap suc (length-padded n xs)
+use Rattle.automaton.proofs.Copying.{length-row}
 
 take-padded : (n : ℕ) (xs ys : List ℕ) → length xs ≤ n → take (length xs) (padded n xs ++ ys) ≡ xs
 unfolding padded
@@ -54,10 +51,6 @@ module _ (ranks table : List ℕ) (i : ℕ) (u : Rule) (more : List ℕ) (at-row
   rule-back h r = rw (symbol-back, target-back, r, children-back h)
 
 -- All rows read back.
-length-row : (u : Rule) → length (row u) ≡ 10
-unfolding row
-length-row u = length-padded 10 (u .symbol ∷ u .target ∷ u .children)
-
 Readable : List ℕ → Rule → Type 0
 Readable ranks u = (length (u .children) ≤ 8) × (getD ranks (u .symbol) 0 ≡ length (u .children))
 
@@ -126,3 +119,19 @@ unfolding judgementOf
 decoded-held b r size ranks ranks′ table table′ d e =
     held-from b (judge b) size (r .finals .words) ranks ranks′ table table′ refl
     (ap judgementOf (sym e) ∙ d .answer) (d .finals) (d .ranks-after) (d .rows-after)
+
+-- What `decode` fills in meets what `write` requires.
+pub decoded-writable : (b : List ℕ) (r : Decoded) (size : Size) (ranks ranks′ table table′ : List ℕ)
+    → Decodes b r ranks ranks′ table table′ → r .judged ≡ Table size
+    → (size .symbols ≤ 256) × WellFormed (automatonIn size (r .finals .words) ranks′ table′)
+unfolding sizeOf
+decoded-writable b r size ranks ranks′ table table′ d e =
+    let h = decoded-held b r size ranks ranks′ table table′ d e in
+    (rw (h .counts) (h .well-formed .symbols), rw (h .holds) (h .well-formed))
+
+-- Written back, it gives the table's own bytes.
+pub decoded-encodes : (b : List ℕ) (r : Decoded) (size : Size) (ranks ranks′ table table′ : List ℕ) → Bytes b
+    → Decodes b r ranks ranks′ table table′ → r .judged ≡ Table size → encode (automatonIn size (r .finals .words) ranks′ table′) ≡ b
+decoded-encodes b r size ranks ranks′ table table′ bytes d e =
+    let h = decoded-held b r size ranks ranks′ table table′ d e in
+    ap encode (h .holds) ∙ encode-judge b (h .automaton) bytes (h .judged)

@@ -6,7 +6,8 @@ use mathlib.Core.List.{List, _++_, append-assoc}
 use lib.ListN.{length, take, drop, length-append, length-take, length-drop, take-append-drop}
 use lib.Seq.{drop-at, take-at, drop-drop}
 use Rattle.automaton.specs.Bytes.{number2, number4, bytes2, bytes4}
-use Rattle.automaton.specs.Record.{whole, opened, bodyOf, restOf, encodeRecord}
+use Rattle.automaton.specs.Record.{whole, opened, bodyOf, encodeRecord}
+use Rattle.automaton.specs.Inner.{restOf}
 use Rattle.automaton.proofs.Opening.{opened-whole, opened-within, body-within, rest-behind}
 use Rattle.automaton.proofs.Fields.{Bytes, bytes-append, bytes-drop, bytes-take, bytes-bytes2, bytes-bytes4}
 use Rattle.automaton.proofs.Fields.{number2-bytes2, number4-bytes4, bytes2-number2, bytes4-number4}

@@ -14,6 +14,7 @@ use lib.Pow.{shl-exact, shr-shr}
 use lib.Bits.{bitOr, bitXor, differ, or-shr, or-step, xor-shr, xor-step}
 use borrow.Author.Tests.{eq-eqb, ne-eqb, eqb-true, eqb-false}
 use Rattle.automaton.specs.StateSet.{member, words, emptySet, replaced, withState, withoutState}
+use Rattle.automaton.proofs.Elements.{all-map}
 use Rattle.automaton.specs.StateSet.{unionOf, withAll, setOf}
 use Rattle.automaton.specs.Lists.{All, none, also, Rising, empty, single, step, from, keep}
 
@@ -198,10 +199,6 @@ length-withAll ws (q ∷ qs) e = length-withAll (withState ws q) qs (length-word
 pub length-setOf : (qs : List ℕ) → length (setOf qs) ≡ 4
 unfolding setOf emptySet
 length-setOf qs = length-withAll emptySet qs (length-words _)
-
-pub all-map : {P Q : ℕ → Type 0} {qs : List ℕ} → ((q : ℕ) → P q → Q q) → All P qs → All Q qs
-all-map f none = none
-all-map f (also {x = x} p ps) = also (f x p) (all-map f ps)
 
 pub rising-above : {a : ℕ} {qs : List ℕ} → Rising (a ∷ qs) → All (λ (q : ℕ). a < q) qs
 rising-above single = none

@@ -1,15 +1,18 @@
 -- What holds of reading, stated over the definitions of specs/ alone. Each theorem is proved in the file that its body names.
 use Prim.Native.Nat.{ℕ, _≤_, _<_}
-use mathlib.Core.Path.{_≡_, subst, sym}
+use mathlib.Core.Path.{_≡_, subst}
 use mathlib.Core.List.{List, _++_}
-use mathlib.Core.Bool.{Bool, false, not, _&&_, _||_}
+use mathlib.Core.Bool.{false, not, _&&_, _||_}
 use lib.ListN.{length, getD}
 use lib.Dec.{eqb}
 use Rattle.automaton.specs.Automaton.{Automaton, WellFormed}
 use Rattle.automaton.specs.Read.{found}
 use Rattle.automaton.specs.Table.{judge, encode}
 use Rattle.automaton.specs.StateSet.{member, emptySet, withState, withoutState, unionOf, setOf}
-use Rattle.automaton.specs.Decoded.{sizeOf, rows, automatonIn}
+use Rattle.automaton.specs.Decoded.{sizeOf, rows, automatonIn, Decodes}
+use Rattle.automaton.specs.declared.decoding.Decoded.{Decoded}
+use Rattle.automaton.specs.declared.table.Size.{Size}
+use Rattle.automaton.specs.declared.table.Judged.the-variants.{Table}
 use Rattle.automaton.proofs.Encoding as encoding
 use Rattle.automaton.proofs.StateSets as sets
 use Rattle.automaton.proofs.Meaning as meaning
@@ -40,6 +43,16 @@ table-length b A bytes e =
 pub decoded-means : (A : Automaton) → WellFormed A → (x y : List ℕ)
     → automatonIn (sizeOf A) (setOf (A .finals)) (A .ranks ++ x) (rows (A .rules) ++ y) ≡ A
 decoded-means = meaning.automaton-back
+
+-- What `decode` answers for a table that it does not refuse can be written, and is then the table's own bytes.
+pub decoded-writable : (b : List ℕ) (r : Decoded) (size : Size) (ranks ranks′ table table′ : List ℕ)
+    → Decodes b r ranks ranks′ table table′ → r .judged ≡ Table size
+    → (size .symbols ≤ 256) × WellFormed (automatonIn size (r .finals .words) ranks′ table′)
+decoded-writable = meaning.decoded-writable
+
+pub decoded-encodes : (b : List ℕ) (r : Decoded) (size : Size) (ranks ranks′ table table′ : List ℕ) → ((i : ℕ) → getD b i 0 < 256)
+    → Decodes b r ranks ranks′ table table′ → r .judged ≡ Table size → encode (automatonIn size (r .finals .words) ranks′ table′) ≡ b
+decoded-encodes = meaning.decoded-encodes
 
 -- The members of the empty set, of a set with a state, of a set without one, and of a union.
 pub empty-members : (r : ℕ) → r < 256 → member emptySet r ≡ false

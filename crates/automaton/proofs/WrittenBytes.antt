@@ -17,8 +17,12 @@ use Rattle.automaton.specs.Record.{encodeRecord}
 use Rattle.automaton.specs.Table.{encodeRule, encodeRules, encode}
 use Rattle.automaton.specs.Read.{found, refused}
 use Rattle.automaton.specs.StateSet.{member}
-use Rattle.automaton.specs.Decoded.{over, ruleAt, automatonIn, RowFits, written, writtenOver}
+use Rattle.automaton.specs.Decoded.{ruleAt, automatonIn, written, writtenOver}
+use Rattle.automaton.specs.Inner.{over, RowFits}
 use Rattle.automaton.specs.declared.table.Size.{Size}
+use Rattle.automaton.proofs.Elements.{all-at}
+use Rattle.automaton.proofs.Fields.{length-fields}
+use Rattle.automaton.proofs.Records.{length-record}
 
 pub over-nil : (out : List ℕ) (at : ℕ) → out ≡ over out at []
 unfolding over
@@ -95,11 +99,6 @@ pub bytes4-halves : (v : ℕ) → bytes4 v ≡ bytes2 (v % 65536) ++ bytes2 (v /
 unfolding bytes4 bytes2
 bytes4-halves v = ap₂ (λ (low high : ℕ). low ∷ high ∷ bytes2 (v / 65536)) (omega arith) (omega arith)
 
-pub length-fields : (vs : List ℕ) → length (fields vs) ≡ 2 * length vs
-unfolding fields bytes2
-length-fields [] = refl
-length-fields (v ∷ vs) = omega (arith, length-fields vs)
-
 pub fields-append : (us vs : List ℕ) → fields (us ++ vs) ≡ fields us ++ fields vs
 unfolding fields bytes2
 fields-append [] vs = refl
@@ -123,10 +122,6 @@ over-field out at src start j h l =
     ∙ ap (over out at) (rw (add-one, take-suc vs j 0 inside, fields-append, fields-single, getD-drop))
 
 -- Records.
-
-pub length-record : (kind : ℕ) (body : List ℕ) → length (encodeRecord kind body) ≡ 6 + length body
-unfolding encodeRecord bytes4 bytes2
-length-record kind body = omega arith
 
 -- A head and then a body.
 pub over-record : (out : List ℕ) (at kind size : ℕ) (now body next : List ℕ)
@@ -261,11 +256,6 @@ pub room-short : (bytes out : List ℕ) → length out < length bytes
     → (written bytes out ≡ refused 13) × (writtenOver bytes out ≡ out)
 unfolding written writtenOver
 room-short bytes out h = rw (lt-leb (length bytes) (length out) h) (refl, refl)
-
-pub all-at : {P : ℕ → Type 0} {vs : List ℕ} → All P vs → (i : ℕ) → i < length vs → P (getD vs i 0)
-all-at none i h = absurd (omega arith)
-all-at (also p ps) zero h = p
-all-at (also p ps) (suc i) h = all-at ps i (omega arith)
 
 pub all-from : (P : Rule → Type 0) (f : ℕ → Rule) (i n : ℕ) → All P (map f (from i n)) → (j : ℕ) → j < n → P (f (i + j))
 unfolding from

@@ -9,10 +9,6 @@ use Rattle.automaton.specs.declared.record.Opened.the-variants as opened
 use Rattle.automaton.specs.declared.table.Size.{Size}
 use Rattle.automaton.specs.declared.table.Judged.{Judged}
 use Rattle.automaton.specs.declared.table.Judged.the-variants as judged
-use Rattle.automaton.specs.declared.table.Place.{Place}
-use Rattle.automaton.specs.declared.table.Place.the-variants as place
-use Rattle.automaton.specs.declared.table.Verdict.{Verdict}
-use Rattle.automaton.specs.declared.table.Verdict.the-variants as verdict
 use Rattle.automaton.specs.declared.writing.Written.{Written}
 use Rattle.automaton.specs.declared.writing.Written.the-variants as written
 
@@ -20,14 +16,6 @@ unfoldable pub openingOf : Opened → Opening
 openingOf (opened.Record kind end) = records.whole kind end
 openingOf opened.End = records.nothing
 openingOf (opened.Refused cause) = records.refused (numberOf cause)
-
-unfoldable pub placeOf : Place → Read ℕ
-placeOf (place.At end) = found end
-placeOf (place.Refused cause) = refused (numberOf cause)
-
-unfoldable pub verdictOf : Verdict → Read (Unit {0})
-verdictOf verdict.Passed = found tt
-verdictOf (verdict.Refused cause) = refused (numberOf cause)
 
 unfoldable pub judgementOf : Judged → Read Size
 judgementOf (judged.Table size) = found size

@@ -4,10 +4,8 @@ use mathlib.Core.Path.{_≡_}
 use mathlib.Core.List.{List, [], _∷_, _++_, map}
 use mathlib.Core.Bool.{Bool, cond}
 use lib.ListN.{length, take, drop, getD}
-use lib.Seq.{paste}
 use lib.Dec.{leb}
 use Rattle.automaton.specs.Lists.{from, keep}
-use Rattle.automaton.specs.Bytes.{number2}
 use Rattle.automaton.specs.Automaton.{Rule, Automaton}
 use Rattle.automaton.specs.Read.{Read, found, refused, mapRead}
 use Rattle.automaton.specs.StateSet.{member, emptySet, setOf}
@@ -16,12 +14,9 @@ use Rattle.automaton.specs.Answers.{judgementOf}
 use Rattle.automaton.specs.declared.table.Size.{Size}
 use Rattle.automaton.specs.declared.decoding.Decoded.{Decoded}
 
--- The counts n, m and k: of an automaton, in the body of the first record, and of a table unless it is refused.
+-- The counts n, m and k of an automaton, and of a table unless it is refused.
 unfoldable pub sizeOf : Automaton → Size
 sizeOf A = record { states = A .states; symbols = length (A .ranks); rules = length (A .rules) }
-
-unfoldable pub sizeIn : List ℕ → Size
-sizeIn body = record { states = number2 body; symbols = number2 (drop 2 body); rules = number2 (drop 4 body) }
 
 unfoldable pub sized : Read Automaton → Read Size
 sized = mapRead sizeOf
@@ -70,11 +65,6 @@ automatonIn size finals ranks table = record {
   rules = map (ruleAt ranks table) (from 0 (size .rules));
 }
 
--- Row i names a symbol below 256 whose rank is at most 8.
-pub record RowFits (ranks table : List ℕ) (i : ℕ) : Type 0 where
-  pub symbol : getD table (10 * i) 0 < 256
-  pub rank : getD ranks (getD table (10 * i) 0) 0 ≤ 8
-
 -- Bytes written into a lent buffer: the answer, their length or 13 where the room is short, and the buffer afterwards,
 -- in which what stands behind the result stays.
 unfoldable pub written : List ℕ → List ℕ → Read ℕ
@@ -82,10 +72,6 @@ written bytes out = cond (leb (length bytes) (length out)) (found (length bytes)
 
 unfoldable pub writtenOver : List ℕ → List ℕ → List ℕ
 writtenOver bytes out = cond (leb (length bytes) (length out)) (bytes ++ drop (length bytes) out) out
-
--- A buffer with some bytes written over what stood from `at` on.
-unfoldable pub over : List ℕ → ℕ → List ℕ → List ℕ
-over out at bytes = paste out at bytes (length bytes)
 
 -- Decoding: the answer, the set of final states, and the two arrays before and after.
 pub record Decodes (b : List ℕ) (r : Decoded) (ranks ranks′ rows rows′ : List ℕ) : Type 0 where

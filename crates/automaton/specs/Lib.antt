@@ -8,3 +8,4 @@ pub mod Table
 pub mod StateSet
 pub mod Decoded
 pub mod Answers
+pub mod Inner

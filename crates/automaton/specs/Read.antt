@@ -25,8 +25,3 @@ check false cause = refused cause
 unfoldable pub mapRead : {A B : Type 0} → (A → B) → Read A → Read B
 mapRead f (found a) = found (f a)
 mapRead f (refused cause) = refused cause
-
--- Whether reading passes, without what was read.
-unfoldable pub passing : {A : Type 0} → Read A → Read (Unit {0})
-passing (found a) = found tt
-passing (refused cause) = refused cause

@@ -36,15 +36,3 @@ bodyOf b = bodyIn (opened b) b
 -- A record in bytes.
 unfoldable pub encodeRecord : ℕ → List ℕ → List ℕ
 encodeRecord kind body = bytes4 (2 + length body) ++ (bytes2 kind ++ body)
-
--- Where the first record ends, or where the bytes end if none opens; and the bytes behind.
-unfoldable pub endIn : Opening → List ℕ → ℕ
-endIn (whole kind end) b = end
-endIn nothing b = length b
-endIn (refused cause) b = length b
-
-unfoldable pub firstEnd : List ℕ → ℕ
-firstEnd b = endIn (opened b) b
-
-unfoldable pub restOf : List ℕ → List ℕ
-restOf b = drop (firstEnd b) b

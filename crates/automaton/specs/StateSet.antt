@@ -6,9 +6,11 @@ use lib.ListN.{getD}
 use lib.Bits.{bitOr, bitXor}
 use lib.Dec.{eqb}
 
+-- Whether state q is in the set.
 unfoldable pub member : List ℕ → ℕ → Bool
 member ws q = eqb (getD ws (q / 64) 0 / 2 ^ (q % 64) % 2) 1
 
+-- Four words, each by its number.
 unfoldable pub words : (ℕ → ℕ) → List ℕ
 words f = f 0 ∷ f 1 ∷ f 2 ∷ f 3 ∷ []
 
@@ -19,17 +21,17 @@ emptySet = words (λ (i : ℕ). 0)
 unfoldable pub replaced : List ℕ → ℕ → ℕ → List ℕ
 replaced ws i w = words (λ (j : ℕ). cond (eqb j i) w (getD ws j 0))
 
+-- The set with state q, without it, and the union of two sets.
 unfoldable pub withState : List ℕ → ℕ → List ℕ
 withState ws q = replaced ws (q / 64) (bitOr (getD ws (q / 64) 0) (2 ^ (q % 64)))
 
--- The bit is set and then flipped.
 unfoldable pub withoutState : List ℕ → ℕ → List ℕ
 withoutState ws q = replaced ws (q / 64) (bitXor (bitOr (getD ws (q / 64) 0) (2 ^ (q % 64))) (2 ^ (q % 64)))
 
 unfoldable pub unionOf : List ℕ → List ℕ → List ℕ
 unionOf ws vs = words (λ (i : ℕ). bitOr (getD ws i 0) (getD vs i 0))
 
--- The states of a list added one after the other.
+-- The set of the states of a list: each is added in turn.
 unfoldable pub withAll : List ℕ → List ℕ → List ℕ
 withAll ws [] = ws
 withAll ws (q ∷ qs) = withAll (withState ws q) qs

@@ -3,12 +3,13 @@ ghost use mathlib.Core.Path.{_≡_};
 ghost use mathlib.Core.List.{List, _++_};
 ghost use Prim.Native.Nat.{ℕ, _+_, _*_, _≤_, _<_};
 ghost use lib.ListN.{length, drop, getD};
-ghost use Rattle.automaton.specs.Record.{bodyOf, firstEnd, restOf};
+ghost use Rattle.automaton.specs.Record.{bodyOf};
 ghost use Rattle.automaton.specs.Bytes.{numbers};
 ghost use Rattle.automaton.specs.Automaton.{Rule};
 ghost use Rattle.automaton.specs.Read.{found};
 ghost use Rattle.automaton.specs.Lists.{All};
 ghost use Rattle.automaton.specs.StateSet.{setOf};
+ghost use Rattle.automaton.specs.Inner.{firstEnd, restOf, over};
 ghost use Rattle.automaton.specs.Table as table;
 ghost use Rattle.automaton.specs.Decoded as decoded;
 use crate::bytes::number2;
@@ -65,7 +66,7 @@ fn set_of(b: &[u8]) -> StateSet
 // The ten numbers of a rule's body, at row i.
 fn put_row(b: &[u8], rows: &mut [u16], i: usize)
     requires { ⌜ 10 * i + 10 ≤ length (now rows) ⌝ }
-    ensures { λ _. ⌜ now (rows .exit) ≡ decoded.over (now (rows .entry)) (10 * i) (decoded.padded 10 (numbers (now (b .entry)))) ⌝ }
+    ensures { λ _. ⌜ now (rows .exit) ≡ over (now (rows .entry)) (10 * i) (decoded.padded 10 (numbers (now (b .entry)))) ⌝ }
 {
     let mut j: usize = 0;
     while j < 10 {

@@ -1,5 +1,5 @@
 // Reads and writes tables: bytes to an automaton or a refusal, and an automaton back to bytes.
-// Nothing above this crate looks at a table's bytes.
+// What is above this crate works on decoded tables and never reads a table's bytes.
 mod bytes;
 mod decoding;
 mod record;

@@ -9,12 +9,14 @@ pub struct StateSet {
 }
 
 impl StateSet {
+    // The set of no state.
     pub fn empty() -> Self
         ensures { λ r. ⌜ r .words ≡ emptySet ⌝ }
     {
         StateSet { words: [0; 4] }
     }
 
+    // Whether state q, below 256, is in the set.
     pub fn has(self, q: usize) -> bool
         requires { ⌜ q < 256 ⌝ }
         ensures { λ r. ⌜ r ≡ member (self .words) q ⌝ }
@@ -23,6 +25,7 @@ impl StateSet {
         (words[q / 64] >> (q % 64)) % 2 == 1
     }
 
+    // The set with state q, below 256.
     pub fn with(self, q: usize) -> Self
         requires { ⌜ q < 256 ⌝ }
         ensures { λ r. ⌜ r .words ≡ withState (self .words) q ⌝ }
@@ -32,6 +35,7 @@ impl StateSet {
         StateSet { words }
     }
 
+    // The set without state q, below 256.
     pub fn without(self, q: usize) -> Self
         requires { ⌜ q < 256 ⌝ }
         ensures { λ r. ⌜ r .words ≡ withoutState (self .words) q ⌝ }
@@ -42,6 +46,7 @@ impl StateSet {
         StateSet { words }
     }
 
+    // The states of both sets.
     pub fn union(self, other: StateSet) -> Self
         ensures { λ r. ⌜ r .words ≡ unionOf (self .words) (other .words) ⌝ }
     {

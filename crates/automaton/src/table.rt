@@ -1,4 +1,4 @@
-// Tables: judged record by record, and decoded into arrays.
+// Tables, judged record by record.
 ghost use mathlib.Core.Path.{_≡_};
 ghost use mathlib.Core.List.{[]};
 ghost use Prim.Native.Nat.{ℕ, _≤_};
@@ -8,17 +8,16 @@ ghost use Rattle.automaton.specs.Refusal.{numberOf};
 ghost use Rattle.automaton.specs.Lists as lists;
 ghost use Rattle.automaton.specs.Bytes.{numbers};
 ghost use Rattle.automaton.specs.Read as read;
-ghost use Rattle.automaton.specs.Read.{passing};
 ghost use Rattle.automaton.specs.Record.{bodyOf};
 ghost use Rattle.automaton.specs.Table as table;
-ghost use Rattle.automaton.specs.Answers.{placeOf, verdictOf, judgementOf};
-ghost use Rattle.automaton.specs.Decoded.{sizeIn, sized};
+ghost use Rattle.automaton.specs.Answers.{judgementOf};
+ghost use Rattle.automaton.specs.Decoded.{sized};
+ghost use Rattle.automaton.specs.Inner.{passing, placeOf, verdictOf, sizeIn};
 use crate::bytes::number2;
 use crate::record::Opened;
 use crate::record::body;
 use crate::record::open;
 use crate::refusal::Refusal;
-use crate::set::StateSet;
 
 // The counts of a table: n, m and k.
 pub struct Size {
@@ -27,6 +26,7 @@ pub struct Size {
     pub rules: usize,
 }
 
+// The counts of a well-formed table, or the refusal.
 pub enum Judged {
     Table(Size),
     Refused(Refusal),

@@ -11,6 +11,7 @@ ghost use Rattle.automaton.specs.Table.{encode, encodeRule, encodeRules}
 ghost use Rattle.automaton.specs.StateSet.{member};
 ghost use Rattle.automaton.specs.Decoded as decoded;
 ghost use Rattle.automaton.specs.Answers.{writingOf};
+ghost use Rattle.automaton.specs.Inner.{over, RowFits};
 use crate::refusal::Refusal;
 use crate::set::StateSet;
 use crate::table::Size;
@@ -24,7 +25,7 @@ pub enum Written {
 // Two bytes from `at` on.
 fn put2(out: &mut [u8], at: usize, v: u16)
     requires { ⌜ at + 2 ≤ length (now out) ⌝ }
-    ensures { λ _. ⌜ now (out .exit) ≡ decoded.over (now (out .entry)) at (bytes2 v) ⌝ }
+    ensures { λ _. ⌜ now (out .exit) ≡ over (now (out .entry)) at (bytes2 v) ⌝ }
 {
     out[at] = (v % 256) as u8;
     out[at + 1] = (v / 256 % 256) as u8;
@@ -34,7 +35,7 @@ fn put2(out: &mut [u8], at: usize, v: u16)
 fn put_head(out: &mut [u8], at: usize, kind: u16, size: usize)
     requires { ⌜ at + 6 ≤ length (now out) ⌝ }
     requires { ⌜ size ≤ 65535 ⌝ }
-    ensures { λ _. ⌜ now (out .exit) ≡ decoded.over (now (out .entry)) at (bytes4 (2 + size) ++ bytes2 kind) ⌝ }
+    ensures { λ _. ⌜ now (out .exit) ≡ over (now (out .entry)) at (bytes4 (2 + size) ++ bytes2 kind) ⌝ }
 {
     let length = 2 + size;
     put2(out, at, (length % 65536) as u16);
@@ -46,7 +47,7 @@ fn put_head(out: &mut [u8], at: usize, kind: u16, size: usize)
 fn put_fields(out: &mut [u8], at: usize, src: &[u16], start: usize, count: usize)
     requires { ⌜ at + 2 * count ≤ length (now out) ⌝ }
     requires { ⌜ start + count ≤ length (now src) ⌝ }
-    ensures { λ _. ⌜ now (out .exit) ≡ decoded.over (now (out .entry)) at (fields (take count (drop start (now (src .entry))))) ⌝ }
+    ensures { λ _. ⌜ now (out .exit) ≡ over (now (out .entry)) at (fields (take count (drop start (now (src .entry))))) ⌝ }
 {
     let mut j: usize = 0;
     while j < count {
@@ -59,7 +60,7 @@ fn put_fields(out: &mut [u8], at: usize, src: &[u16], start: usize, count: usize
 fn put_bytes(out: &mut [u8], at: usize, src: &[u8], count: usize)
     requires { ⌜ at + count ≤ length (now out) ⌝ }
     requires { ⌜ count ≤ length (now src) ⌝ }
-    ensures { λ _. ⌜ now (out .exit) ≡ decoded.over (now (out .entry)) at (take count (now (src .entry))) ⌝ }
+    ensures { λ _. ⌜ now (out .exit) ≡ over (now (out .entry)) at (take count (now (src .entry))) ⌝ }
 {
     let mut j: usize = 0;
     while j < count {
@@ -73,7 +74,7 @@ fn put_state(out: &mut [u8], at: usize, set: StateSet, q: usize) -> usize
     requires { ⌜ q < 256 ⌝ }
     requires { ⌜ at + length (fields (keep (member (set .words)) (q ∷ []))) ≤ length (now out) ⌝ }
     ensures { λ r. ⌜ r ≡ at + length (fields (keep (member (set .words)) (q ∷ []))) ⌝ }
-    ensures { λ r. ⌜ now (out .exit) ≡ decoded.over (now (out .entry)) at (fields (keep (member (set .words)) (q ∷ []))) ⌝ }
+    ensures { λ r. ⌜ now (out .exit) ≡ over (now (out .entry)) at (fields (keep (member (set .words)) (q ∷ []))) ⌝ }
 {
     if !set.has(q) {
         return at;
@@ -86,7 +87,7 @@ fn put_state(out: &mut [u8], at: usize, set: StateSet, q: usize) -> usize
 fn put_states(out: &mut [u8], at: usize, set: StateSet, n: usize)
     requires { ⌜ n ≤ 256 ⌝ }
     requires { ⌜ at + length (fields (keep (member (set .words)) (from 0 n))) ≤ length (now out) ⌝ }
-    ensures { λ _. ⌜ now (out .exit) ≡ decoded.over (now (out .entry)) at (fields (keep (member (set .words)) (from 0 n))) ⌝ }
+    ensures { λ _. ⌜ now (out .exit) ≡ over (now (out .entry)) at (fields (keep (member (set .words)) (from 0 n))) ⌝ }
 {
     let mut next = at;
     let mut q: usize = 0;
@@ -115,10 +116,10 @@ fn count_states(set: StateSet, n: usize) -> usize
 // Rule i as a record; the answer is where the next one goes.
 fn put_rule(out: &mut [u8], at: usize, ranks: &[u8; 256], rows: &[u16; 10240], i: usize) -> usize
     requires { ⌜ i < 1024 ⌝ }
-    requires { ⌜ decoded.RowFits (now ranks) (now rows) i ⌝ }
+    requires { ⌜ RowFits (now ranks) (now rows) i ⌝ }
     requires { ⌜ at + length (encodeRule (decoded.ruleAt (now ranks) (now rows) i)) ≤ length (now out) ⌝ }
     ensures { λ r. ⌜ r ≡ at + length (encodeRule (decoded.ruleAt (now (ranks .entry)) (now (rows .entry)) i)) ⌝ }
-    ensures { λ r. ⌜ now (out .exit) ≡ decoded.over (now (out .entry)) at (encodeRule (decoded.ruleAt (now (ranks .entry)) (now (rows .entry)) i)) ⌝ }
+    ensures { λ r. ⌜ now (out .exit) ≡ over (now (out .entry)) at (encodeRule (decoded.ruleAt (now (ranks .entry)) (now (rows .entry)) i)) ⌝ }
 {
     let symbol = rows[10 * i] as usize;
     let rank = ranks[symbol] as usize;
@@ -131,7 +132,7 @@ fn put_rule(out: &mut [u8], at: usize, ranks: &[u8; 256], rows: &[u16; 10240], i
 fn rules_length(ranks: &[u8], rows: &[u16], k: usize) -> usize
     requires { ⌜ k ≤ 1024 ⌝ }
     requires { ⌜ (256 ≤ length (now ranks)) × (10 * k ≤ length (now rows)) ⌝ }
-    requires { ⌜ ((i : ℕ) → i < k → decoded.RowFits (now ranks) (now rows) i) ⌝ }
+    requires { ⌜ ((i : ℕ) → i < k → RowFits (now ranks) (now rows) i) ⌝ }
     ensures { λ r. ⌜ r ≡ length (encodeRules (map (decoded.ruleAt (now (ranks .entry)) (now (rows .entry))) (from 0 k))) ⌝ }
     ensures { λ r. ⌜ r ≤ 26 * k ⌝ }
 {
@@ -148,9 +149,9 @@ fn rules_length(ranks: &[u8], rows: &[u16], k: usize) -> usize
 // k rules, one behind the other.
 fn put_rules(out: &mut [u8], at: usize, ranks: &[u8; 256], rows: &[u16; 10240], k: usize)
     requires { ⌜ k ≤ 1024 ⌝ }
-    requires { ⌜ ((i : ℕ) → i < k → decoded.RowFits (now ranks) (now rows) i) ⌝ }
+    requires { ⌜ ((i : ℕ) → i < k → RowFits (now ranks) (now rows) i) ⌝ }
     requires { ⌜ at + length (encodeRules (map (decoded.ruleAt (now ranks) (now rows)) (from 0 k))) ≤ length (now out) ⌝ }
-    ensures { λ _. ⌜ now (out .exit) ≡ decoded.over (now (out .entry)) at
+    ensures { λ _. ⌜ now (out .exit) ≡ over (now (out .entry)) at
         (encodeRules (map (decoded.ruleAt (now (ranks .entry)) (now (rows .entry))) (from 0 k))) ⌝ }
 {
     let mut next = at;
@@ -165,7 +166,7 @@ fn put_rules(out: &mut [u8], at: usize, ranks: &[u8; 256], rows: &[u16; 10240], 
 fn put_size(out: &mut [u8], size: Size)
     requires { ⌜ 12 ≤ length (now out) ⌝ }
     requires { ⌜ (size .states ≤ 256) × ((size .symbols ≤ 256) × (size .rules ≤ 1024)) ⌝ }
-    ensures { λ _. ⌜ now (out .exit) ≡ decoded.over (now (out .entry)) 0
+    ensures { λ _. ⌜ now (out .exit) ≡ over (now (out .entry)) 0
         (encodeRecord 1 (fields (size .states ∷ size .symbols ∷ size .rules ∷ []))) ⌝ }
 {
     put_head(out, 0, 1, 6);
@@ -178,7 +179,7 @@ fn put_size(out: &mut [u8], size: Size)
 fn put_ranks(out: &mut [u8], at: usize, ranks: &[u8; 256], m: usize)
     requires { ⌜ m ≤ 256 ⌝ }
     requires { ⌜ at + 6 + m ≤ length (now out) ⌝ }
-    ensures { λ _. ⌜ now (out .exit) ≡ decoded.over (now (out .entry)) at (encodeRecord 2 (take m (now (ranks .entry)))) ⌝ }
+    ensures { λ _. ⌜ now (out .exit) ≡ over (now (out .entry)) at (encodeRecord 2 (take m (now (ranks .entry)))) ⌝ }
 {
     put_head(out, at, 2, m);
     put_bytes(out, at + 6, ranks, m);
@@ -189,7 +190,7 @@ fn put_finals(out: &mut [u8], at: usize, set: StateSet, n: usize, count: usize)
     requires { ⌜ n ≤ 256 ⌝ }
     requires { ⌜ count ≡ length (keep (member (set .words)) (from 0 n)) ⌝ }
     requires { ⌜ at + 6 + 2 * count ≤ length (now out) ⌝ }
-    ensures { λ _. ⌜ now (out .exit) ≡ decoded.over (now (out .entry)) at
+    ensures { λ _. ⌜ now (out .exit) ≡ over (now (out .entry)) at
         (encodeRecord 3 (fields (keep (member (set .words)) (from 0 n)))) ⌝ }
 {
     put_head(out, at, 3, 2 * count);
@@ -197,6 +198,7 @@ fn put_finals(out: &mut [u8], at: usize, set: StateSet, n: usize, count: usize)
 }
 
 // Writes a decoded table to the start of `out` and answers its length; refusal 13, and nothing written, where the room is short.
+// The arrays must hold a well-formed automaton, as `decode` leaves them; states of the set that are not below `size.states` are none.
 pub fn write(
     size: Size,
     finals: StateSet,

@@ -8,20 +8,21 @@ use lib.ListN.{length, take, drop}
 use denote.Ref.{now}
 use Rattle.automaton.specs.Lists.{All}
 use Rattle.automaton.specs.Bytes.{numbers}
-use Rattle.automaton.specs.Record.{bodyOf, restOf}
+use Rattle.automaton.specs.Record.{bodyOf}
 use Rattle.automaton.specs.Automaton.{Rule, Automaton}
 use Rattle.automaton.specs.Read.{Read, found, refused, mapRead}
 use Rattle.automaton.specs.StateSet.{emptySet, setOf}
 use Rattle.automaton.specs.Table.{judgeRules, judge}
 use Rattle.automaton.specs.Answers.{judgementOf}
 use Rattle.automaton.specs.Decoded.{Decodes, sizeOf, sized, finalsOf, rows, ranksAfter, rowsAfter}
+use Rattle.automaton.specs.Inner.{restOf}
 use Rattle.automaton.specs.declared.set.StateSet.{StateSet}
 use Rattle.automaton.specs.declared.table.Size.{Size}
 use Rattle.automaton.specs.declared.table.Judged.{Judged}
 use Rattle.automaton.specs.declared.table.Judged.the-variants as judged
 use Rattle.automaton.proofs.Inversion.{judge-parts}
 use Rattle.automaton.proofs.Encoding.{judge-well-formed}
-use Rattle.automaton.proofs.StateSets.{all-map}
+use Rattle.automaton.proofs.Elements.{all-map}
 use Rattle.automaton.proofs.Copying.{end-within, part-behind}
 use Rattle.automaton.proofs.decoding.decode.Statement.{statement}
 use Rattle.automaton.proofs.decoding.decode.Tie as tie

@@ -8,8 +8,9 @@ use mathlib.Core.List.{List, [], _∷_}
 use types.Run.{OneOf}
 use lib.ListN.{length}
 use denote.Enum.Declared.{tagOf}
-use Rattle.automaton.specs.Record.{opened, endIn, firstEnd}
+use Rattle.automaton.specs.Record.{opened}
 use Rattle.automaton.specs.Answers.{openingOf}
+use Rattle.automaton.specs.Inner.{endIn, firstEnd}
 use Rattle.automaton.specs.declared.record.Opened.{Opened}
 use Rattle.automaton.specs.declared.record.Opened.the-variants.{Record, End, Refused}
 use Rattle.automaton.proofs.record.Opened.{the-type}

@@ -7,7 +7,8 @@ use lib.ListN.{length, length-set}
 use lib.Seq.{paste, paste-zero}
 use denote.Ref.{now}
 use Rattle.automaton.specs.Bytes.{numbers}
-use Rattle.automaton.specs.Decoded.{padded, over}
+use Rattle.automaton.specs.Decoded.{padded}
+use Rattle.automaton.specs.Inner.{over}
 use Rattle.automaton.proofs.Copying.{copy-step, length-padded, row-at}
 use Rattle.automaton.proofs.decoding.put_row.Statement.{statement}
 use Rattle.automaton.proofs.decoding.put_row.Tie as tie

@@ -12,7 +12,8 @@ use Rattle.automaton.specs.Record.{bodyOf}
 use Rattle.automaton.specs.Automaton.{Rule}
 use Rattle.automaton.specs.Read.{found}
 use Rattle.automaton.specs.Table.{judgeRules}
-use Rattle.automaton.specs.Decoded.{padded, over}
+use Rattle.automaton.specs.Decoded.{padded}
+use Rattle.automaton.specs.Inner.{over}
 use Rattle.automaton.proofs.Copying.{end-within, part-behind, Reached, none-reached, next-reached, all-reached}
 use Rattle.automaton.proofs.decoding.put_rows.Statement.{statement}
 use Rattle.automaton.proofs.decoding.put_rows.Tie as tie

@@ -9,7 +9,7 @@ use Rattle.automaton.specs.Lists.{All}
 use Rattle.automaton.specs.Bytes.{number2, numbers}
 use Rattle.automaton.specs.StateSet.{withAll, setOf}
 use Rattle.automaton.proofs.Fields.{numbers-step, numbers-end}
-use Rattle.automaton.proofs.Encoding.{all-first, all-rest}
+use Rattle.automaton.proofs.Elements.{all-first, all-rest}
 use Rattle.automaton.proofs.decoding.set_of.Statement.{statement}
 use Rattle.automaton.proofs.decoding.set_of.Tie as tie
 

@@ -12,7 +12,8 @@ use Rattle.automaton.specs.Refusal.{numberOf}
 use Rattle.automaton.specs.Record.{opened}
 use Rattle.automaton.specs.Read.{found, refused, _>>_, check}
 use Rattle.automaton.specs.Table.{due, dueIn}
-use Rattle.automaton.specs.Answers.{openingOf, placeOf}
+use Rattle.automaton.specs.Answers.{openingOf}
+use Rattle.automaton.specs.Inner.{placeOf}
 use Rattle.automaton.specs.declared.refusal.Refusal.{Refusal}
 use Rattle.automaton.specs.declared.record.Opened.{Opened}
 use Rattle.automaton.specs.declared.record.Opened.the-variants.{Record, End, Refused}

@@ -6,10 +6,10 @@ use mathlib.Core.Path.{_≡_, sym, ap, _∙_}
 use lib.ListN.{length, drop}
 use denote.Ref.{now}
 use Rattle.automaton.specs.Bytes.{number2}
-use Rattle.automaton.specs.Read.{found, passing}
+use Rattle.automaton.specs.Read.{found}
 use Rattle.automaton.specs.Table.{due, judgeRanks}
-use Rattle.automaton.specs.Decoded.{sizeIn}
-use Rattle.automaton.specs.Answers.{placeOf, verdictOf, judgementOf}
+use Rattle.automaton.specs.Answers.{judgementOf}
+use Rattle.automaton.specs.Inner.{passing, sizeIn, placeOf, verdictOf}
 use Rattle.automaton.specs.declared.table.Size.{Size}
 use Rattle.automaton.proofs.Scanning.{part-to-end}
 use Rattle.automaton.proofs.Judging.{due-within, table-missing, table-length, too-many-states, too-many-symbols, too-many-rules, table-refused, table-passes}

@@ -1,10 +1,10 @@
 -- `automaton::table::judge_end` meets its contract: nothing is left, no record is due, or one stands where none may.
 use borrow.Author.Needs.{needs}
 use mathlib.Core.Path.{_≡_, sym, ap, _∙_}
-use Rattle.automaton.specs.Answers.{placeOf, verdictOf}
 use Rattle.automaton.proofs.Judging.{end-empty, end-refused, end-more}
 use Rattle.automaton.proofs.table.judge_end.Statement.{statement}
 use Rattle.automaton.proofs.table.judge_end.Tie as tie
+use Rattle.automaton.specs.Inner.{placeOf, verdictOf}
 
 returns : tie.Need-returns
 unfolding verdictOf

@@ -7,7 +7,7 @@ use lib.ListN.{length}
 use denote.Ref.{now}
 use Rattle.automaton.specs.Read.{found}
 use Rattle.automaton.specs.Table.{due}
-use Rattle.automaton.specs.Answers.{placeOf, verdictOf}
+use Rattle.automaton.specs.Inner.{placeOf, verdictOf}
 use Rattle.automaton.proofs.Scanning.{part-to-end}
 use Rattle.automaton.proofs.Judging.{due-within, finals-missing, finals-odd, finals-range, finals-order, finals-rules}
 use Rattle.automaton.proofs.table.judge_finals.Statement.{statement}

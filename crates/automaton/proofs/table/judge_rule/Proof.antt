@@ -10,7 +10,7 @@ use lib.Dec.{ltb}
 use Rattle.automaton.specs.Lists.{all}
 use denote.Ref.{now}
 use Rattle.automaton.specs.Bytes.{number2, numbers}
-use Rattle.automaton.specs.Answers.{verdictOf}
+use Rattle.automaton.specs.Inner.{verdictOf}
 use Rattle.automaton.proofs.Scanning.{part-to-end}
 use Rattle.automaton.proofs.Judging.{rule-short, rule-symbol, rule-arity, rule-states, rule-passes}
 use Rattle.automaton.proofs.table.judge_rule.Statement.{statement}

@@ -6,9 +6,9 @@ use mathlib.Core.Path.{_≡_, sym, ap, _∙_}
 use mathlib.Core.List.{List}
 use lib.ListN.{length, drop}
 use denote.Ref.{now}
-use Rattle.automaton.specs.Read.{found, passing}
+use Rattle.automaton.specs.Read.{found}
 use Rattle.automaton.specs.Table.{judgeRules}
-use Rattle.automaton.specs.Answers.{placeOf, verdictOf}
+use Rattle.automaton.specs.Inner.{passing, placeOf, verdictOf}
 use Rattle.automaton.proofs.Scanning.{part-to-end}
 use Rattle.automaton.proofs.Judging.{nextRule, next-within, rules-refused, rules-next, rules-end}
 use Rattle.automaton.proofs.table.judge_rules.Statement.{statement}

@@ -3,9 +3,8 @@ use borrow.Author.Needs.{needs}
 use mathlib.Core.Path.{_≡_, sym, ap, _∙_}
 use denote.Ref.{now}
 use Rattle.automaton.specs.Record.{bodyOf}
-use Rattle.automaton.specs.Read.{passing}
 use Rattle.automaton.specs.Table.{judgeRule}
-use Rattle.automaton.specs.Answers.{placeOf, verdictOf}
+use Rattle.automaton.specs.Inner.{passing, placeOf, verdictOf}
 use Rattle.automaton.proofs.Judging.{next-missing, next-refused, next-passes}
 use Rattle.automaton.proofs.table.next_rule.Statement.{statement}
 use Rattle.automaton.proofs.table.next_rule.Tie as tie

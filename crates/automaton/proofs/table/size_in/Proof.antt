@@ -1,8 +1,8 @@
 -- `automaton::table::size_in` meets its contract: three numbers of two bytes.
 use borrow.Author.Needs.{needs}
-use Rattle.automaton.specs.Decoded.{sizeIn}
 use Rattle.automaton.proofs.table.size_in.Statement.{statement}
 use Rattle.automaton.proofs.table.size_in.Tie as tie
+use Rattle.automaton.specs.Inner.{sizeIn}
 
 returns : tie.Need-returns
 unfolding sizeIn

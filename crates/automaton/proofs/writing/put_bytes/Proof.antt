@@ -4,10 +4,10 @@ use mathlib.Core.Path.{_≡_}
 use native.Mathlib.Omega.{arith}
 use lib.ListN.{length, length-set, take}
 use borrow.Author.Needs.{needs}
-use Rattle.automaton.specs.Decoded.{over}
 use Rattle.automaton.proofs.WrittenBytes.{over-nil, over-copy}
 use Rattle.automaton.proofs.writing.put_bytes.Statement.{statement}
 use Rattle.automaton.proofs.writing.put_bytes.Tie as tie
+use Rattle.automaton.specs.Inner.{over}
 
 abbrev Inv-loop : tie.InvT-loop
 Inv-loop out₀ at src count j₀ out j = (j ≤ count) × (length out ≡ length out₀) × (out ≡ over out₀ at (take j src))

@@ -5,7 +5,7 @@ use native.Mathlib.Omega.{arith}
 use lib.ListN.{length, take, drop}
 use borrow.Author.Needs.{needs}
 use Rattle.automaton.specs.Bytes.{fields}
-use Rattle.automaton.specs.Decoded.{over}
+use Rattle.automaton.specs.Inner.{over}
 use Rattle.automaton.proofs.WrittenBytes.{over-nil, over-field}
 use Rattle.automaton.proofs.writing.put_fields.Statement.{statement}
 use Rattle.automaton.proofs.writing.put_fields.Tie as tie

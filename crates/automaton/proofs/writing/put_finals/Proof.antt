@@ -2,7 +2,8 @@
 use native.Mathlib.Omega.{arith}
 use borrow.Author.Needs.{needs}
 use Rattle.automaton.specs.StateSet.{member}
-use Rattle.automaton.proofs.WrittenBytes.{over-record, length-fields, kept-few}
+use Rattle.automaton.proofs.Fields.{length-fields}
+use Rattle.automaton.proofs.WrittenBytes.{over-record, kept-few}
 use Rattle.automaton.proofs.writing.put_finals.Statement.{statement}
 use Rattle.automaton.proofs.writing.put_finals.Tie as tie
 

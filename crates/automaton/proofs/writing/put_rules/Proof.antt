@@ -6,7 +6,8 @@ use lib.ListN.{length}
 use borrow.Author.Needs.{needs}
 use Rattle.automaton.specs.Lists.{from}
 use Rattle.automaton.specs.Table.{encodeRules}
-use Rattle.automaton.specs.Decoded.{over, ruleAt}
+use Rattle.automaton.specs.Decoded.{ruleAt}
+use Rattle.automaton.specs.Inner.{over}
 use Rattle.automaton.proofs.WrittenBytes.{over-nil, length-step, room-for-step, over-step, rules}
 use Rattle.automaton.proofs.writing.put_rules.Statement.{statement}
 use Rattle.automaton.proofs.writing.put_rules.Tie as tie

@@ -7,7 +7,7 @@ use borrow.Author.Needs.{needs}
 use Rattle.automaton.specs.Lists.{from, keep}
 use Rattle.automaton.specs.Bytes.{fields}
 use Rattle.automaton.specs.StateSet.{member}
-use Rattle.automaton.specs.Decoded.{over}
+use Rattle.automaton.specs.Inner.{over}
 use Rattle.automaton.proofs.WrittenBytes.{over-nil, length-step, room-for-step, over-step, states}
 use Rattle.automaton.proofs.writing.put_states.Statement.{statement}
 use Rattle.automaton.proofs.writing.put_states.Tie as tie

@@ -6,7 +6,8 @@ use lib.ListN.{length}
 use borrow.Author.Needs.{needs}
 use Rattle.automaton.specs.Lists.{from}
 use Rattle.automaton.specs.Table.{encodeRules}
-use Rattle.automaton.specs.Decoded.{ruleAt, RowFits}
+use Rattle.automaton.specs.Decoded.{ruleAt}
+use Rattle.automaton.specs.Inner.{RowFits}
 use Rattle.automaton.proofs.WrittenBytes.{length-step, rules, length-rule}
 use Rattle.automaton.proofs.writing.rules_length.Statement.{statement}
 use Rattle.automaton.proofs.writing.rules_length.Tie as tie
