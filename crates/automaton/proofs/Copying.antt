@@ -1,12 +1,11 @@
--- Decoding: lists copied over lists, the numbers of a body in a row, and the rows of rules found one after the other.
+-- Decoding: where the first record ends, the numbers of a body as a row, and the rows of rules found one after the other.
 use Prim.Native.Nat.{ℕ, zero, suc, _+_, _-_, _*_, _≤_, _<_}
 use native.Mathlib.Omega.{arith}
 use native.Mathlib.Nat.{le-refl}
-use native.Mathlib.Numerals.{add-one}
 use mathlib.Core.Path.{_≡_, refl, sym, ap, _∙_}
 use mathlib.Core.List.{List, [], _∷_, _++_, append-assoc, append-nil}
-use lib.ListN.{length, take, drop, getD, set, length-append}
-use lib.Seq.{paste, paste-suc, take-length, take-at, drop-at, drop-drop}
+use lib.ListN.{length, take, drop, getD, length-append}
+use lib.Seq.{drop-drop}
 use Rattle.automaton.specs.Bytes.{numbers}
 use Rattle.automaton.specs.Record as records
 use Rattle.automaton.specs.Record.{Opening, whole, nothing, opened, bodyOf}
@@ -16,8 +15,9 @@ use Rattle.automaton.specs.Table.{ruleIn, judgeRule, judgeRules}
 use Rattle.automaton.specs.Decoded.{padded, row, rows}
 use Rattle.automaton.specs.Inner.{endIn, firstEnd, restOf, over}
 use Rattle.automaton.proofs.Opening.{opened-within, rest-behind}
-use Rattle.automaton.proofs.Fields.{numbers-step}
+use Rattle.automaton.proofs.Fields.{two-numbers}
 use Rattle.automaton.proofs.Scanning.{part-to-end}
+use Rattle.automaton.proofs.WrittenBytes.{over-behind}
 use Rattle.automaton.proofs.Inversion.{rule-found, rules-found, no-rules-found}
 
 -- Where the first record ends.
@@ -35,16 +35,6 @@ end-within b = go (opened b) refl
 pub part-behind : (b : List ℕ) {end : ℕ} → end ≡ firstEnd b → take (length b - end) (drop end b) ≡ restOf b
 unfolding restOf
 part-behind b e = rw (part-to-end, e)
-
--- One element more of a copy.
-pub copy-step : (d : List ℕ) (at : ℕ) (s : List ℕ) (j : ℕ) {i : ℕ} → i ≡ at + j → i < length d → j < length s
-    → set (paste d at s j) i (getD s j 0) ≡ paste d at s (j + 1)
-copy-step d at s j e hd hs = rw (add-one, e) (paste-suc d at s j 0 (rw e at hd) hs)
-
--- What a copy leaves behind it.
-pub copy-behind : (p q s : List ℕ) (n : ℕ) → length p ≡ n
-    → paste (p ++ q) n s (length s) ≡ (p ++ s) ++ drop (length s) q
-copy-behind p q s n e = rw (take-at p q n e, take-length s, ← (drop-drop (length s) n (p ++ q)), drop-at p q n e)
 
 -- A row: the fields of a body, and zeros.
 
@@ -80,7 +70,7 @@ rule-row : (n : ℕ) (ranks body : List ℕ) {u : Rule} → judgeRule n ranks bo
 unfolding row ruleIn
 rule-row n ranks body h =
     let f = rule-found n ranks body h in
-    rw (f .rule, numbers-step body 0 (omega (arith, f .start)), numbers-step body 2 (omega (arith, f .start)))
+    rw (f .rule, two-numbers body (f .start))
 
 -- The rows of rules, one behind the other.
 
@@ -100,29 +90,28 @@ rows-snoc (v ∷ us) u = rw (rows-snoc us u) (sym (append-assoc (row v) (rows us
 
 next-row : (us : List Rule) (u : Rule) (old : List ℕ) (i : ℕ) → length us ≡ i
     → over (rows us ++ drop (10 * i) old) (10 * i) (row u) ≡ rows (us ++ (u ∷ [])) ++ drop (10 * (i + 1)) old
-unfolding over
 next-row us u old i e =
     let place : length (rows us) ≡ 10 * i = omega (arith, length-rows us) in
     let next : 10 * (i + 1) ≡ 10 * i + 10 = omega arith in
-    rw (copy-behind (rows us) (drop (10 * i) old) (row u) (10 * i) place, rows-snoc, length-row u, next, drop-drop)
+    rw (over-behind (rows us) (drop (10 * i) old) (row u) (10 * i) place, rows-snoc, length-row u, next, drop-drop)
 
 -- The first i rules are in the array, and k others still to be read.
-pub record Reached (n : ℕ) (ranks : List ℕ) (us : List Rule) (old : List ℕ) (i k : ℕ) (b table : List ℕ) : Type 0 where
+pub record Reached (n : ℕ) (ranks : List ℕ) (us : List Rule) (old : List ℕ) (i k : ℕ) (b cells : List ℕ) : Type 0 where
   pub done : List Rule
   pub others : List Rule
   pub all : us ≡ done ++ others
   pub count : length done ≡ i
   pub left : judgeRules n ranks k b ≡ found others
-  pub array : table ≡ rows done ++ drop (10 * i) old
+  pub array : cells ≡ rows done ++ drop (10 * i) old
 
 module _ (n : ℕ) (ranks : List ℕ) (us : List Rule) (old : List ℕ) where
   pub none-reached : (k : ℕ) (b : List ℕ) → judgeRules n ranks k b ≡ found us → Reached n ranks us old 0 k b old
   unfolding rows
   none-reached k b h = record { done = []; others = us; all = refl; count = refl; left = h; array = refl }
 
-  pub next-reached : (i k : ℕ) (b table : List ℕ) → Reached n ranks us old i (suc k) b table
-      → Reached n ranks us old (i + 1) k (restOf b) (over table (10 * i) (padded 10 (numbers (bodyOf b))))
-  next-reached i k b table r =
+  pub next-reached : (i k : ℕ) (b cells : List ℕ) → Reached n ranks us old i (suc k) b cells
+      → Reached n ranks us old (i + 1) k (restOf b) (over cells (10 * i) (padded 10 (numbers (bodyOf b))))
+  next-reached i k b cells r =
       let f = rules-found n ranks k b (r .left) in
       record {
         done = r .done ++ (f .rule ∷ []);
@@ -133,8 +122,8 @@ module _ (n : ℕ) (ranks : List ℕ) (us : List Rule) (old : List ℕ) where
         array = rw (r .array, rule-row n ranks (bodyOf b) (f .first)) (next-row (r .done) (f .rule) old i (r .count));
       }
 
-  pub all-reached : (i : ℕ) (b table : List ℕ) → Reached n ranks us old i 0 b table
-      → table ≡ rows us ++ drop (10 * i) old
-  all-reached i b table r =
+  pub all-reached : (i : ℕ) (b cells : List ℕ) → Reached n ranks us old i 0 b cells
+      → cells ≡ rows us ++ drop (10 * i) old
+  all-reached i b cells r =
       let e = no-rules-found n ranks b (r .left) .rules in
       r .array ∙ ap (λ (vs : List Rule). rows vs ++ drop (10 * i) old) (sym (r .all ∙ rw (e, append-nil)))

@@ -3,7 +3,7 @@ use Prim.Native.Nat.{ℕ, zero, suc, _+_, _*_, _%_, _≤_, _<_}
 use native.Mathlib.Omega.{arith}
 use mathlib.Core.Path.{_≡_, refl, sym, ap, _∙_}
 use mathlib.Core.List.{List, [], _∷_, _++_}
-use lib.ListN.{length, drop, getD, length-drop}
+use lib.ListN.{length, drop, length-drop}
 use Rattle.automaton.specs.Lists.{All, none, also, Rising, empty, single, step}
 use Rattle.automaton.specs.Bytes.{number2, numbers, fields}
 use Rattle.automaton.specs.Record.{whole, opened, bodyOf, encodeRecord}
@@ -13,7 +13,7 @@ use Rattle.automaton.specs.Table.{ruleIn, judgeRule, judgeRules, judgeFi
 use Rattle.automaton.specs.Table.{encodeRule, encodeRules, encode}
 use Rattle.automaton.proofs.Elements.{all-map, all-at, all-first, all-rest}
 use Rattle.automaton.proofs.Fields.{Bytes, bytes-none, bytes-also, bytes-drop, bytes-fields}
-use Rattle.automaton.proofs.Fields.{numbers-step, numbers-end, length-numbers, fields-numbers, numbers-fields}
+use Rattle.automaton.proofs.Fields.{numbers-step, two-numbers, numbers-end, length-numbers, fields-numbers, numbers-fields}
 use Rattle.automaton.proofs.Fields.{first-field, drop-field, drop-two-fields, length-fields}
 use Rattle.automaton.proofs.Records.{length-record-more, bytes-record, bytes-body}
 use Rattle.automaton.proofs.Records.{record-opens, record-body, record-behind, record-encoded}
@@ -75,15 +75,8 @@ fields-encoded :
 fields-encoded b vs more e h even read =
     body-encoded b (fields vs) more e h (ap fields read ∙ fields-numbers (bodyOf b) (bytes-body b e h) even)
 
-two-numbers : (b : List ℕ) → 4 ≤ length b → numbers b ≡ number2 b ∷ number2 (drop 2 b) ∷ numbers (drop 4 b)
-two-numbers b h =
-    numbers-step b 0 (omega arith) ∙ ap (λ (vs : List ℕ). number2 b ∷ vs) (numbers-step b 2 (omega arith))
-
 three-numbers : (b : List ℕ) → length b ≡ 6 → numbers b ≡ number2 b ∷ number2 (drop 2 b) ∷ number2 (drop 4 b) ∷ []
-three-numbers b h =
-    two-numbers b (omega arith)
-    ∙ ap (λ (vs : List ℕ). number2 b ∷ number2 (drop 2 b) ∷ vs)
-    (numbers-step b 4 (omega arith) ∙ ap (λ (vs : List ℕ). number2 (drop 4 b) ∷ vs) (numbers-end b 6 (omega arith)))
+three-numbers b h = rw (two-numbers b (omega arith), numbers-step b 4 (omega arith), numbers-end b 6 (omega arith))
 
 rules-encoded :
     (n : ℕ) (ranks : List ℕ) (k : ℕ) (b : List ℕ) {us : List Rule} → Bytes b → judgeRules n ranks k b ≡ found us
@@ -123,7 +116,7 @@ rising-count : {n a : ℕ} {xs : List ℕ} → Rising (a ∷ xs) → All (λ (q 
 rising-count single (also h hs) = omega arith
 rising-count (step l r) (also h hs) = omega (arith, rising-count r hs)
 
-pub finals-few : {n : ℕ} {xs : List ℕ} → Rising xs → All (λ (q : ℕ). q < n) xs → length xs ≤ n
+finals-few : {n : ℕ} {xs : List ℕ} → Rising xs → All (λ (q : ℕ). q < n) xs → length xs ≤ n
 finals-few empty hs = omega arith
 finals-few single hs = omega (arith, rising-count single hs)
 finals-few (step l r) hs = omega (arith, rising-count (step l r) hs)
@@ -171,7 +164,7 @@ rules-judged A w (also {x = u} {xs = us} r rs) =
       rule = u;
       first = rw (record-body 4 body more short (omega arith)) (rule-judged A u w r);
       rest = us;
-      others = rw (record-behind 4 body more short (omega arith)) (rules-judged A w rs);
+      others = rw (record-behind 4 body more) (rules-judged A w rs);
       rules = refl;
     })
 
@@ -193,7 +186,7 @@ module _ (A : Automaton) (w : WellFormed A) where
         states = rw read (w .finals);
         rises = rw read (w .rising);
         rules = A .rules;
-        others = rw (record-behind 3 body more short (omega arith)) (rules-judged A w (w .rules));
+        others = rw (record-behind 3 body more) (rules-judged A w (w .rules));
         table = rw read;
       })
 
@@ -210,7 +203,7 @@ module _ (A : Automaton) (w : WellFormed A) where
         opens = record-opens 2 (A .ranks) more short (omega arith);
         count = ap length same;
         small = rw same (w .ranks);
-        others = rw (same, record-behind 2 (A .ranks) more short (omega arith)) finals-judged;
+        others = rw (same, record-behind 2 (A .ranks) more) finals-judged;
       })
 
 pub judge-encode : (A : Automaton) → WellFormed A → judge (encode A) ≡ found A
@@ -232,7 +225,7 @@ judge-encode A w =
       states = omega arith;
       symbols = omega arith;
       count = omega arith;
-      others = rw (states, symbols, count, record-behind 1 body more short (omega arith)) (ranks-judged A w);
+      others = rw (states, symbols, count, record-behind 1 body more) (ranks-judged A w);
     })
 
 -- The encoding is bytes, and has 24 to 27,416 of them.

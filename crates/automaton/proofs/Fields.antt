@@ -2,8 +2,8 @@
 use Prim.Native.Nat.{ℕ, zero, suc, _+_, _*_, _/_, _%_, _≤_, _<_}
 use native.Mathlib.Omega.{arith}
 use native.Mathlib.Nat.{add-mul-mod-self-left}
-use native.Mathlib.Numerals.{add-one, add-two}
-use mathlib.Core.Path.{_≡_, refl, ap, sym, _∙_}
+use native.Mathlib.Numerals.{add-two}
+use mathlib.Core.Path.{_≡_, refl}
 use mathlib.Core.List.{List, [], _∷_, _++_, append-assoc}
 use lib.ListN.{length, take, drop, getD, length-drop}
 use lib.Seq.{drop-cons, drop-drop, getD-drop}
@@ -14,6 +14,9 @@ use Rattle.automaton.specs.Bytes.{number2, number4, numbers, bytes2, byt
 pub numbers-step : (b : List ℕ) (i : ℕ) → i + 1 < length b → numbers (drop i b) ≡ number2 (drop i b) ∷ numbers (drop (i + 2) b)
 unfolding numbers number2
 numbers-step b i h = rw (add-two, drop-cons b i 0 (omega arith), drop-cons b (suc i) 0 (omega arith))
+
+pub two-numbers : (b : List ℕ) → 4 ≤ length b → numbers b ≡ number2 b ∷ number2 (drop 2 b) ∷ numbers (drop 4 b)
+two-numbers b h = rw (numbers-step b 0 (omega arith), numbers-step b 2 (omega arith))
 
 -- Fewer than two bytes left: no field.
 numbers-short : (b : List ℕ) → length b ≤ 1 → numbers b ≡ []
@@ -117,7 +120,7 @@ bytes2-number2 (x ∷ (y ∷ b)) h l =
     let high : (x + 256 * y) / 256 % 256 ≡ y = second-byte x y (h 0) (h 1) in
     cc
 
-pub number2-below : (b : List ℕ) → Bytes b → number2 b < 65536
+number2-below : (b : List ℕ) → Bytes b → number2 b < 65536
 unfolding number2
 number2-below b h = omega (arith, h 0, h 1)
 

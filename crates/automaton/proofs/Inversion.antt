@@ -1,4 +1,5 @@
--- What a judge that finds something has checked: every step before a `found` has passed, and each test is a fact.
+-- What a judge that finds something has checked (`-found`): every step before a `found` has passed, and each test is a fact.
+-- The other way round (`-finds`): where the facts hold, it finds. A table's counts (`Sized`), and where its parts stand (`Parts`).
 use Prim.Native.Nat.{ℕ, zero, suc, _+_, _*_, _%_, _≤_, _<_}
 use native.Mathlib.Omega.{arith}
 use mathlib.Core.Path.{_≡_, refl, sym, ap, _∙_}
@@ -22,25 +23,25 @@ use Rattle.automaton.specs.Inner.{restOf}
 pub refused≢found : {A : Type 0} {cause : ℕ} {a : A} → refused cause ≡ found a → ⊥
 refused≢found h = let z : _≡_ {A = ℕ} 0 1 = cc in omega arith
 
-pub bind-found :
+bind-found :
     {A B : Type 0} (x : Read A) (f : A → Read B) {y : B} → x >>= f ≡ found y → (a : A) × (x ≡ found a) × (f a ≡ found y)
 unfolding _>>=_
 bind-found (found a) f h = (a, refl, h)
 bind-found (refused cause) f h = absurd (refused≢found h)
 
-pub then-found :
+then-found :
     {A B : Type 0} (x : Read A) (y : Read B) {z : B} → x >> y ≡ found z → (a : A) × (x ≡ found a) × (y ≡ found z)
 unfolding _>>_
 then-found (found a) y h = (a, refl, h)
 then-found (refused cause) y h = absurd (refused≢found h)
 
-pub check-found : (t : Bool) (cause : ℕ) {u : Unit {0}} → check t cause ≡ found u → t ≡ true
+check-found : (t : Bool) (cause : ℕ) {u : Unit {0}} → check t cause ≡ found u → t ≡ true
 unfolding check
 check-found true cause h = refl
 check-found false cause h = absurd (refused≢found h)
 
 -- A check and what follows it.
-pub checked :
+checked :
     {B : Type 0} (t : Bool) (cause : ℕ) (y : Read B) {z : B} → check t cause >> y ≡ found z → (t ≡ true) × (y ≡ found z)
 checked t cause y h = let s = then-found (check t cause) y h in (check-found t cause (s .1), s .2)
 
@@ -68,38 +69,38 @@ both-true true t h = (refl, h)
 both-true false t h = absurd (false≢true h)
 
 module _ (t : ℕ → Bool) (P : ℕ → Type 0) where
-  pub all→All : ((x : ℕ) → t x ≡ true → P x) → (xs : List ℕ) → all t xs ≡ true → All P xs
+  all→All : ((x : ℕ) → t x ≡ true → P x) → (xs : List ℕ) → all t xs ≡ true → All P xs
   unfolding all
   all→All f [] h = none
   all→All f (x ∷ xs) h = let c = both-true (t x) (all t xs) h in also (f x (c .0)) (all→All f xs (c .1))
 
-  pub All→all : ((x : ℕ) → P x → t x ≡ true) → {xs : List ℕ} → All P xs → all t xs ≡ true
+  All→all : ((x : ℕ) → P x → t x ≡ true) → {xs : List ℕ} → All P xs → all t xs ≡ true
   unfolding all
   All→all f none = refl
   All→all f (also p ps) = rw (f _ p, All→all f ps)
 
-pub risingFrom→Rising : (a : ℕ) (xs : List ℕ) → risingFrom a xs ≡ true → Rising (a ∷ xs)
+risingFrom→Rising : (a : ℕ) (xs : List ℕ) → risingFrom a xs ≡ true → Rising (a ∷ xs)
 unfolding risingFrom
 risingFrom→Rising a [] h = single
 risingFrom→Rising a (b ∷ xs) h =
     let c = both-true (ltb a b) (risingFrom b xs) h in
     step (ltb-true a b (c .0)) (risingFrom→Rising b xs (c .1))
 
-pub rising→Rising : (xs : List ℕ) → rising xs ≡ true → Rising xs
+rising→Rising : (xs : List ℕ) → rising xs ≡ true → Rising xs
 unfolding rising
 rising→Rising [] h = empty
 rising→Rising (a ∷ xs) h = risingFrom→Rising a xs h
 
-pub Rising→rising : {xs : List ℕ} → Rising xs → rising xs ≡ true
+Rising→rising : {xs : List ℕ} → Rising xs → rising xs ≡ true
 unfolding rising risingFrom
 Rising→rising empty = refl
 Rising→rising single = refl
 Rising→rising (step h r) = rw (lt-ltb _ _ h) (Rising→rising r)
 
-pub all-below : (n : ℕ) (xs : List ℕ) → all (λ (q : ℕ). ltb q n) xs ≡ true → All (λ (q : ℕ). q < n) xs
+all-below : (n : ℕ) (xs : List ℕ) → all (λ (q : ℕ). ltb q n) xs ≡ true → All (λ (q : ℕ). q < n) xs
 all-below n = all→All (λ (q : ℕ). ltb q n) (λ (q : ℕ). q < n) (λ q. ltb-true q n)
 
-pub below-all : (n : ℕ) {xs : List ℕ} → All (λ (q : ℕ). q < n) xs → all (λ (q : ℕ). ltb q n) xs ≡ true
+below-all : (n : ℕ) {xs : List ℕ} → All (λ (q : ℕ). q < n) xs → all (λ (q : ℕ). ltb q n) xs ≡ true
 below-all n = All→all (λ (q : ℕ). ltb q n) (λ (q : ℕ). q < n) (λ q. lt-ltb q n)
 
 -- What each judge has checked.
@@ -242,7 +243,7 @@ table-found b h =
 
 -- The other way round: where the facts hold, the judge finds.
 
-pub due-finds : (kind missing : ℕ) (b : List ℕ) {end : ℕ} → opened b ≡ whole kind end → due kind missing b ≡ found end
+due-finds : (kind missing : ℕ) (b : List ℕ) {end : ℕ} → opened b ≡ whole kind end → due kind missing b ≡ found end
 unfolding due dueIn check _>>_
 due-finds kind missing b e = rw (e, dueIn, eq-eqb kind kind refl)
 
@@ -280,7 +281,7 @@ table-finds b r =
 
 -- The counts of a table, and where its parts stand.
 
-pub rules-count :
+rules-count :
     (n : ℕ) (ranks : List ℕ) (k : ℕ) (b : List ℕ) {us : List Rule} → judgeRules n ranks k b ≡ found us → length us ≡ k
 rules-count n ranks zero b h = ap length (no-rules-found n ranks b h .rules)
 rules-count n ranks (suc k) b h =

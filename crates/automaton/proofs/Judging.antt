@@ -1,11 +1,11 @@
--- What the judge's verdict on a part is, from the verdicts on its records: one law for each way through the code.
+-- The judge's verdict on a part, from the verdicts on its records: one law for each way through the code behind a record that is due.
 use Prim.Native.Nat.{ℕ, zero, suc, _+_, _-_, _*_, _%_, _≤_, _<_}
 use native.Mathlib.Omega.{arith}
-use mathlib.Core.Path.{_≡_, refl, sym, ap, _∙_}
+use mathlib.Core.Path.{_≡_, refl, sym, ap}
 use mathlib.Core.List.{List, [], _∷_}
-use mathlib.Core.Bool.{Bool, true, false}
+use mathlib.Core.Bool.{true, false}
 use lib.ListN.{length, drop, getD}
-use lib.Dec.{leb, ltb, eqb}
+use lib.Dec.{leb, ltb}
 use borrow.Author.Tests.{le-leb, lt-leb, lt-ltb, le-ltb, eq-eqb, ne-eqb}
 use Rattle.automaton.specs.Lists.{all, rising}
 use Rattle.automaton.specs.Bytes.{number2, numbers}
@@ -17,6 +17,7 @@ use Rattle.automaton.proofs.Opening.{opened-within}
 use Rattle.automaton.proofs.Inversion.{refused≢found, due-found, ranks-sized}
 use Rattle.automaton.specs.Table.{due, judgeRule, judgeRules, judgeFinals, judgeRanks, judge}
 use Rattle.automaton.specs.Inner.{passing, sizeIn}
+use Rattle.automaton.specs.declared.table.Size.{Size}
 
 same-cause : {A B : Type 0} {c d : ℕ} → _≡_ {A = Read A} (refused c) (refused d) → _≡_ {A = Read B} (refused c) (refused d)
 same-cause {c = c} {d = d} h = let e : c ≡ d = cc in ap refused e
@@ -54,7 +55,7 @@ module _ {A : Type 0} where
 
     steps-next : (d : Read ℕ) (u : Read A) {end : ℕ} → d >>= (λ (e : ℕ). u >> found e) ≡ found end
         → passing (d >>= (λ (e : ℕ). u >>= (λ (a : A). f e >>= (λ (xs : List A). found (a ∷ xs))))) ≡ passing (f end)
-    unfolding passing _>>=_ _>>_
+    unfolding _>>=_ _>>_
     steps-next (refused c) u h = absurd (refused≢found h)
     steps-next (found e) (refused c) h = absurd (refused≢found h)
     steps-next (found e) (found a) {end} h =
@@ -106,18 +107,14 @@ abbrev pub nextRule : ℕ → List ℕ → List ℕ → Read ℕ
 nextRule n ranks b = due 4 7 b >>= (λ (end : ℕ). judgeRule n ranks (bodyOf b) >> found end)
 
 module _ (n : ℕ) (ranks b : List ℕ) where
-  pub next-missing : {cause : ℕ} → due 4 7 b ≡ refused cause → nextRule n ranks b ≡ refused cause
-  unfolding _>>=_
-  next-missing d = rw d
-
   pub next-refused : {end cause : ℕ} → due 4 7 b ≡ found end → passing (judgeRule n ranks (bodyOf b)) ≡ refused cause
       → nextRule n ranks b ≡ refused cause
-  unfolding _>>=_ _>>_
+  unfolding _>>=_
   next-refused d u = rw d (then-refused (judgeRule n ranks (bodyOf b)) _ u)
 
   pub next-passes : {end : ℕ} → due 4 7 b ≡ found end → passing (judgeRule n ranks (bodyOf b)) ≡ found tt
       → nextRule n ranks b ≡ found end
-  unfolding _>>=_ _>>_
+  unfolding _>>=_
   next-passes d u = rw d (then-passes (judgeRule n ranks (bodyOf b)) _ u)
 
   pub next-within : {end : ℕ} → nextRule n ranks b ≡ found end → end ≤ length b
@@ -148,109 +145,90 @@ unfolding judgeRules passing
 end-empty [] h = refl
 end-empty (x ∷ b) h = absurd (omega arith)
 
+end-some : (b : List ℕ) → (length b ≡ 0 → ⊥) → judgeRules 0 [] 0 b ≡ (due 4 7 b >> refused 7)
+unfolding judgeRules
+end-some [] some = absurd (some refl)
+end-some (x ∷ b) some = refl
+
 module _ (b : List ℕ) (some : length b ≡ 0 → ⊥) where
   pub end-refused : {cause : ℕ} → due 4 7 b ≡ refused cause → passing (judgeRules 0 [] 0 b) ≡ refused cause
-  unfolding judgeRules passing _>>_
-  end-refused d = go b some d
-    where
-      go : {cause : ℕ} (b : List ℕ) → (length b ≡ 0 → ⊥) → due 4 7 b ≡ refused cause → passing (judgeRules 0 [] 0 b) ≡ refused cause
-      go [] some d = absurd (some refl)
-      go (x ∷ b) some d = rw d
+  unfolding passing _>>_
+  end-refused d = rw (end-some b some, d)
 
   pub end-more : {end : ℕ} → due 4 7 b ≡ found end → passing (judgeRules 0 [] 0 b) ≡ refused 7
-  unfolding judgeRules passing _>>_
-  end-more d = go b some d
-    where
-      go : {end : ℕ} (b : List ℕ) → (length b ≡ 0 → ⊥) → due 4 7 b ≡ found end → passing (judgeRules 0 [] 0 b) ≡ refused 7
-      go [] some d = absurd (some refl)
-      go (x ∷ b) some d = rw d
+  unfolding passing _>>_
+  end-more d = rw (end-some b some, d)
 
 -- The final states. `body` is the record's body.
-module _ (n : ℕ) (ranks : List ℕ) (k : ℕ) (b : List ℕ) where
-  pub finals-missing : {cause : ℕ} → due 3 2 b ≡ refused cause → passing (judgeFinals n ranks k b) ≡ refused cause
-  unfolding judgeFinals passing _>>=_
-  finals-missing d = rw d
+module _ (n : ℕ) (ranks : List ℕ) (k : ℕ) (b : List ℕ) {end : ℕ} (d : due 3 2 b ≡ found end) {body : List ℕ} (is : body ≡ bodyOf b) where
+  pub finals-odd : (length body % 2 ≡ 0 → ⊥) → passing (judgeFinals n ranks k b) ≡ refused 3
+  unfolding judgeFinals passing _>>=_ _>>_ check
+  finals-odd e = rw (d, ← is, ne-eqb _ _ e)
 
-  module _ (end : ℕ) (d : due 3 2 b ≡ found end) (body : List ℕ) (is : body ≡ bodyOf b) where
-    pub finals-odd : (length body % 2 ≡ 0 → ⊥) → passing (judgeFinals n ranks k b) ≡ refused 3
+  module _ (e : length body % 2 ≡ 0) where
+    pub finals-range : all (λ (q : ℕ). ltb q n) (numbers body) ≡ false → passing (judgeFinals n ranks k b) ≡ refused 5
     unfolding judgeFinals passing _>>=_ _>>_ check
-    finals-odd e = rw (d, ← is, ne-eqb _ _ e)
+    finals-range s = rw (d, ← is, eq-eqb _ _ e, s)
 
-    module _ (e : length body % 2 ≡ 0) where
-      pub finals-range : all (λ (q : ℕ). ltb q n) (numbers body) ≡ false → passing (judgeFinals n ranks k b) ≡ refused 5
+    module _ (s : all (λ (q : ℕ). ltb q n) (numbers body) ≡ true) where
+      pub finals-order : rising (numbers body) ≡ false → passing (judgeFinals n ranks k b) ≡ refused 6
       unfolding judgeFinals passing _>>=_ _>>_ check
-      finals-range s = rw (d, ← is, eq-eqb _ _ e, s)
+      finals-order r = rw (d, ← is, eq-eqb _ _ e, s, r)
 
-      module _ (s : all (λ (q : ℕ). ltb q n) (numbers body) ≡ true) where
-        pub finals-order : rising (numbers body) ≡ false → passing (judgeFinals n ranks k b) ≡ refused 6
-        unfolding judgeFinals passing _>>=_ _>>_ check
-        finals-order r = rw (d, ← is, eq-eqb _ _ e, s, r)
+      table : List Rule → Automaton
+      table us = record { states = n; ranks = ranks; finals = numbers body; rules = us }
 
-        table : List Rule → Automaton
-        table us = record { states = n; ranks = ranks; finals = numbers body; rules = us }
-
-        pub finals-rules : rising (numbers body) ≡ true → passing (judgeFinals n ranks k b) ≡ passing (judgeRules n ranks k (drop end b))
-        unfolding judgeFinals _>>=_ _>>_ check table
-        finals-rules r = rw (d, ← is, eq-eqb _ _ e, s, r) (passing-found table (judgeRules n ranks k (drop end b)))
+      pub finals-rules : rising (numbers body) ≡ true → passing (judgeFinals n ranks k b) ≡ passing (judgeRules n ranks k (drop end b))
+      unfolding judgeFinals _>>=_ _>>_ check table
+      finals-rules r = rw (d, ← is, eq-eqb _ _ e, s, r) (passing-found table (judgeRules n ranks k (drop end b)))
 
 -- The ranks. `body` is the record's body.
-module _ (n m k : ℕ) (b : List ℕ) where
-  pub ranks-missing : {cause : ℕ} → due 2 2 b ≡ refused cause → passing (judgeRanks n m k b) ≡ refused cause
-  unfolding judgeRanks passing _>>=_
-  ranks-missing d = rw d
+module _ (n m k : ℕ) (b : List ℕ) {end : ℕ} (d : due 2 2 b ≡ found end) {body : List ℕ} (is : body ≡ bodyOf b) where
+  pub ranks-length : (length body ≡ m → ⊥) → passing (judgeRanks n m k b) ≡ refused 3
+  unfolding judgeRanks passing _>>=_ _>>_ check
+  ranks-length e = rw (d, ← is, ne-eqb _ _ e)
 
-  module _ (end : ℕ) (d : due 2 2 b ≡ found end) (body : List ℕ) (is : body ≡ bodyOf b) where
-    pub ranks-length : (length body ≡ m → ⊥) → passing (judgeRanks n m k b) ≡ refused 3
+  module _ (e : length body ≡ m) where
+    pub ranks-limit : all (λ (r : ℕ). leb r 8) body ≡ false → passing (judgeRanks n m k b) ≡ refused 4
     unfolding judgeRanks passing _>>=_ _>>_ check
-    ranks-length e = rw (d, ← is, ne-eqb _ _ e)
+    ranks-limit s = rw (d, ← is, eq-eqb _ _ e, s)
 
-    module _ (e : length body ≡ m) where
-      pub ranks-limit : all (λ (r : ℕ). leb r 8) body ≡ false → passing (judgeRanks n m k b) ≡ refused 4
-      unfolding judgeRanks passing _>>=_ _>>_ check
-      ranks-limit s = rw (d, ← is, eq-eqb _ _ e, s)
+    pub ranks-finals : all (λ (r : ℕ). leb r 8) body ≡ true → passing (judgeRanks n m k b) ≡ passing (judgeFinals n body k (drop end b))
+    unfolding judgeRanks _>>=_ _>>_ check
+    ranks-finals s = rw (d, ← is, eq-eqb _ _ e, s)
 
-      pub ranks-finals : all (λ (r : ℕ). leb r 8) body ≡ true
-          → passing (judgeRanks n m k b) ≡ passing (judgeFinals n body k (drop end b))
-      unfolding judgeRanks _>>=_ _>>_ check
-      ranks-finals s = rw (d, ← is, eq-eqb _ _ e, s)
+-- The whole table. `body` is the first record's body, and `size` the counts in it.
+module _ (b : List ℕ) {end : ℕ} (d : due 1 2 b ≡ found end) {body : List ℕ} (is : body ≡ bodyOf b) where
+  pub size-length : (length body ≡ 6 → ⊥) → sized (judge b) ≡ refused 3
+  unfolding judge sized mapRead _>>=_ _>>_ check
+  size-length e = rw (d, ← is, ne-eqb _ _ e)
 
--- The whole table. `body` is the first record's body.
-module _ (b : List ℕ) where
-  pub table-missing : {cause : ℕ} → due 1 2 b ≡ refused cause → sized (judge b) ≡ refused cause
-  unfolding judge sized mapRead _>>=_
-  table-missing d = rw d
+  module _ (e : length body ≡ 6) {size : Size} (counts : size ≡ sizeIn body) where
+    pub too-many-states : 256 < size .states → sized (judge b) ≡ refused 4
+    unfolding judge sized mapRead _>>=_ _>>_ check sizeIn
+    too-many-states n = rw (d, ← is, eq-eqb _ _ e, lt-leb _ _ (rw counts at n))
 
-  module _ (end : ℕ) (d : due 1 2 b ≡ found end) (body : List ℕ) (is : body ≡ bodyOf b) where
-    pub table-length : (length body ≡ 6 → ⊥) → sized (judge b) ≡ refused 3
-    unfolding judge sized mapRead _>>=_ _>>_ check
-    table-length e = rw (d, ← is, ne-eqb _ _ e)
+    module _ (n : size .states ≤ 256) where
+      pub too-many-symbols : 256 < size .symbols → sized (judge b) ≡ refused 4
+      unfolding judge sized mapRead _>>=_ _>>_ check sizeIn
+      too-many-symbols m = rw (d, ← is, eq-eqb _ _ e, le-leb _ _ (rw counts at n), lt-leb _ _ (rw counts at m))
 
-    module _ (e : length body ≡ 6) where
-      pub too-many-states : 256 < number2 body → sized (judge b) ≡ refused 4
-      unfolding judge sized mapRead _>>=_ _>>_ check
-      too-many-states n = rw (d, ← is, eq-eqb _ _ e, lt-leb _ _ n)
+      module _ (m : size .symbols ≤ 256) where
+        pub too-many-rules : 1024 < size .rules → sized (judge b) ≡ refused 4
+        unfolding judge sized mapRead _>>=_ _>>_ check sizeIn
+        too-many-rules k =
+            rw (d, ← is, eq-eqb _ _ e, le-leb _ _ (rw counts at n), le-leb _ _ (rw counts at m), lt-leb _ _ (rw counts at k))
 
-      module _ (n : number2 body ≤ 256) where
-        pub too-many-symbols : 256 < number2 (drop 2 body) → sized (judge b) ≡ refused 4
-        unfolding judge sized mapRead _>>=_ _>>_ check
-        too-many-symbols m = rw (d, ← is, eq-eqb _ _ e, le-leb _ _ n, lt-leb _ _ m)
+        module _ (k : size .rules ≤ 1024) where
+          others : judge b ≡ judgeRanks (size .states) (size .symbols) (size .rules) (drop end b)
+          unfolding judge _>>=_ _>>_ check sizeIn
+          others =
+              rw (d, ← is, eq-eqb _ _ e, le-leb _ _ (rw counts at n), le-leb _ _ (rw counts at m), le-leb _ _ (rw counts at k), counts)
 
-        module _ (m : number2 (drop 2 body) ≤ 256) where
-          pub too-many-rules : 1024 < number2 (drop 4 body) → sized (judge b) ≡ refused 4
-          unfolding judge sized mapRead _>>=_ _>>_ check
-          too-many-rules k = rw (d, ← is, eq-eqb _ _ e, le-leb _ _ n, le-leb _ _ m, lt-leb _ _ k)
+          pub table-refused : {cause : ℕ} → passing (judgeRanks (size .states) (size .symbols) (size .rules) (drop end b)) ≡ refused cause
+              → sized (judge b) ≡ refused cause
+          table-refused h = rw others (sized-refused _ h)
 
-          module _ (k : number2 (drop 4 body) ≤ 1024) where
-            others : judge b ≡ judgeRanks (number2 body) (number2 (drop 2 body)) (number2 (drop 4 body)) (drop end b)
-            unfolding judge _>>=_ _>>_ check
-            others = rw (d, ← is, eq-eqb _ _ e, le-leb _ _ n, le-leb _ _ m, le-leb _ _ k)
-
-            pub table-refused : {cause : ℕ}
-                → passing (judgeRanks (number2 body) (number2 (drop 2 body)) (number2 (drop 4 body)) (drop end b)) ≡ refused cause
-                → sized (judge b) ≡ refused cause
-            table-refused h = rw others (sized-refused _ h)
-
-            pub table-passes : passing (judgeRanks (number2 body) (number2 (drop 2 body)) (number2 (drop 4 body)) (drop end b)) ≡ found tt
-                → sized (judge b) ≡ found (sizeIn body)
-            unfolding sizeIn
-            table-passes h = rw others (sized-passes (number2 body) (number2 (drop 2 body)) (number2 (drop 4 body)) (drop end b) _ refl h)
+          pub table-passes : passing (judgeRanks (size .states) (size .symbols) (size .rules) (drop end b)) ≡ found tt
+              → sized (judge b) ≡ found size
+          table-passes h = rw others (sized-passes _ _ _ (drop end b) _ refl h)

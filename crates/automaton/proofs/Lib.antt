@@ -1,6 +1,7 @@
 pub mod Examples
 pub mod Elements
 pub mod Opening
+pub mod Answered
 pub mod Fields
 pub mod Scanning
 pub mod Records

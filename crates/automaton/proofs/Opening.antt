@@ -9,8 +9,7 @@ use lib.ListN.{length, take, drop}
 use lib.Dec.{leb}
 use borrow.Author.Tests.{le-leb, lt-leb, leb-true}
 use Rattle.automaton.specs.Bytes.{number2, number4}
-use Rattle.automaton.specs.Record.{whole, nothing, refused, endOf, isWhole, opened}
-use Rattle.automaton.specs.Record.{bodyIn, bodyOf}
+use Rattle.automaton.specs.Record.{whole, nothing, refused, endOf, isWhole, opened, bodyIn, bodyOf}
 use Rattle.automaton.specs.Inner.{endIn, firstEnd, restOf}
 
 pub opened-empty : (b : List ℕ) → length b ≡ 0 → opened b ≡ nothing

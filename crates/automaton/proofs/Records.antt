@@ -7,8 +7,7 @@ use lib.ListN.{length, take, drop, length-append, length-take, length-drop, take
 use lib.Seq.{drop-at, take-at, drop-drop}
 use Rattle.automaton.specs.Bytes.{number2, number4, bytes2, bytes4}
 use Rattle.automaton.specs.Record.{whole, opened, bodyOf, encodeRecord}
-use Rattle.automaton.specs.Inner.{restOf}
-use Rattle.automaton.proofs.Opening.{opened-whole, opened-within, body-within, rest-behind}
+use Rattle.automaton.proofs.Opening.{opened-whole, opened-within, body-within}
 use Rattle.automaton.proofs.Fields.{Bytes, bytes-append, bytes-drop, bytes-take, bytes-bytes2, bytes-bytes4}
 use Rattle.automaton.proofs.Fields.{number2-bytes2, number4-bytes4, bytes2-number2, bytes4-number4}
 
@@ -26,6 +25,9 @@ bytes-record kind body more h hs =
     bytes-append (encodeRecord kind body) more
     (bytes-append (bytes4 (2 + length body)) (bytes2 kind ++ body) (bytes-bytes4 (2 + length body))
     (bytes-append (bytes2 kind) body (bytes-bytes2 kind) h)) hs
+
+pub record-behind : (kind : ℕ) (body more : List ℕ) → drop (6 + length body) (encodeRecord kind body ++ more) ≡ more
+record-behind kind body more = drop-at (encodeRecord kind body) more (6 + length body) (length-record kind body)
 
 module _ (kind : ℕ) (body more : List ℕ) (short : length body + 2 < 4294967296) (known : kind < 65536) where
   record-split : encodeRecord kind body ++ more ≡ bytes4 (2 + length body) ++ (bytes2 kind ++ (body ++ more))
@@ -50,12 +52,6 @@ module _ (kind : ℕ) (body more : List ℕ) (short : length body + 2 < 42949672
   record-body =
       body-within (encodeRecord kind body ++ more) record-opens
       ∙ rw record-split (take-at body more (6 + length body - 6) (omega arith))
-
-  pub record-behind : drop (6 + length body) (encodeRecord kind body ++ more) ≡ more
-  record-behind = drop-at (encodeRecord kind body) more (6 + length body) (length-record kind body)
-
-  pub record-rest : restOf (encodeRecord kind body ++ more) ≡ more
-  record-rest = rest-behind (encodeRecord kind body ++ more) record-opens ∙ record-behind
 
 pub bytes-body : (b : List ℕ) {kind end : ℕ} → opened b ≡ whole kind end → Bytes b → Bytes (bodyOf b)
 bytes-body b {kind} {end} e h = rw (body-within b e) (bytes-take (end - 6) (drop 6 b) (bytes-drop 6 b h))

@@ -18,7 +18,7 @@ use Rattle.automaton.proofs.Elements.{all-map}
 use Rattle.automaton.specs.StateSet.{unionOf, withAll, setOf}
 use Rattle.automaton.specs.Lists.{All, none, also, Rising, empty, single, step, from, keep}
 
-pub below-four : (P : ℕ → Type 0) → P 0 → P 1 → P 2 → P 3 → (i : ℕ) → i < 4 → P i
+below-four : (P : ℕ → Type 0) → P 0 → P 1 → P 2 → P 3 → (i : ℕ) → i < 4 → P i
 below-four P a b c d zero h = a
 below-four P a b c d (suc zero) h = b
 below-four P a b c d (suc (suc zero)) h = c
@@ -27,15 +27,15 @@ below-four P a b c d (suc (suc (suc (suc i)))) h = absurd (omega arith)
 
 -- Four words.
 
-pub getD-words : (f : ℕ → ℕ) (i : ℕ) → i < 4 → getD (words f) i 0 ≡ f i
+getD-words : (f : ℕ → ℕ) (i : ℕ) → i < 4 → getD (words f) i 0 ≡ f i
 unfolding words
 getD-words f = below-four (λ (i : ℕ). getD (words f) i 0 ≡ f i) refl refl refl refl
 
-pub length-words : (f : ℕ → ℕ) → length (words f) ≡ 4
+length-words : (f : ℕ → ℕ) → length (words f) ≡ 4
 unfolding words
 length-words f = refl
 
-pub words-getD : (ws : List ℕ) → length ws ≡ 4 → ws ≡ words (λ (i : ℕ). getD ws i 0)
+words-getD : (ws : List ℕ) → length ws ≡ 4 → ws ≡ words (λ (i : ℕ). getD ws i 0)
 words-getD ws e =
     ext-getD 0 ws (words (λ (i : ℕ). getD ws i 0)) (e ∙ sym (length-words _))
     (λ i h. sym (getD-words (λ (j : ℕ). getD ws j 0) i (omega arith)))
@@ -51,14 +51,14 @@ one-bit j h = shl-exact 1 j 64 (omega arith) (omega arith) ∙ one-mul (2 ^ j)
 
 -- Bits.
 
-unfoldable pub bit : ℕ → ℕ → Bool
+unfoldable bit : ℕ → ℕ → Bool
 bit w k = eqb (w / 2 ^ k % 2) 1
 
-pub last-bit : (w : ℕ) (t : Bool) → eqb ((w * 2 + cond t 1 0) % 2) 1 ≡ t
+last-bit : (w : ℕ) (t : Bool) → eqb ((w * 2 + cond t 1 0) % 2) 1 ≡ t
 last-bit w true = eq-eqb ((w * 2 + 1) % 2) 1 (omega arith)
 last-bit w false = ne-eqb ((w * 2 + 0) % 2) 1 (omega arith)
 
-pub two-digits : (P : ℕ → ℕ → Type 0) → P 0 0 → P 0 1 → P 1 0 → P 1 1 → (x y : ℕ) → x < 2 → y < 2 → P x y
+two-digits : (P : ℕ → ℕ → Type 0) → P 0 0 → P 0 1 → P 1 0 → P 1 1 → (x y : ℕ) → x < 2 → y < 2 → P x y
 two-digits P a b c d zero zero hx hy = a
 two-digits P a b c d zero (suc zero) hx hy = b
 two-digits P a b c d (suc zero) zero hx hy = c
@@ -68,7 +68,7 @@ two-digits P a b c d (suc zero) (suc (suc y)) hx hy = absurd (omega arith)
 two-digits P a b c d (suc (suc x)) y hx hy = absurd (omega arith)
 
 -- An operation on numbers that goes digit by digit.
-pub bit-digitwise :
+bit-digitwise :
     (op f : ℕ → ℕ → ℕ) (g : Bool → Bool → Bool)
     → ((a b k : ℕ) → op a b / 2 ^ k ≡ op (a / 2 ^ k) (b / 2 ^ k))
     → ((a b : ℕ) → op a b ≡ op (a / 2) (b / 2) * 2 + f (a % 2) (b % 2))
@@ -83,26 +83,26 @@ bit-digitwise op f g shifted stepped digit a b k =
     ∙ ap (λ (d : ℕ). op (x / 2) (y / 2) * 2 + d) (digit (x % 2) (y % 2) (omega arith) (omega arith)))
     ∙ last-bit (op (x / 2) (y / 2)) (g (bit a k) (bit b k))
 
-pub bit-or : (a b k : ℕ) → bit (bitOr a b) k ≡ (bit a k || bit b k)
+bit-or : (a b k : ℕ) → bit (bitOr a b) k ≡ (bit a k || bit b k)
 bit-or =
     bit-digitwise bitOr max _||_ or-shr or-step
     (two-digits (λ (x y : ℕ). max x y ≡ cond (eqb x 1 || eqb y 1) 1 0) refl refl refl refl)
 
-pub bit-xor : (a b k : ℕ) → bit (bitXor a b) k ≡ xor (bit a k) (bit b k)
+bit-xor : (a b k : ℕ) → bit (bitXor a b) k ≡ xor (bit a k) (bit b k)
 unfolding xor
 bit-xor =
     bit-digitwise bitXor differ xor xor-shr xor-step
     (two-digits (λ (x y : ℕ). differ x y ≡ cond (xor (eqb x 1) (eqb y 1)) 1 0) refl refl refl refl)
 
-pub bit-zero : (k : ℕ) → bit 0 k ≡ false
+bit-zero : (k : ℕ) → bit 0 k ≡ false
 unfolding bit
 bit-zero k = ap (λ (w : ℕ). eqb (w % 2) 1) (zero-div (2 ^ k))
 
-pub bit-suc : (w k : ℕ) → bit w (suc k) ≡ bit (w / 2) k
+bit-suc : (w k : ℕ) → bit w (suc k) ≡ bit (w / 2) k
 unfolding bit
 bit-suc w k = ap (λ (v : ℕ). eqb (v % 2) 1) (ap (λ (j : ℕ). w / 2 ^ j) (sym (one-add k)) ∙ sym (shr-shr w 1 k))
 
-pub bit-power : (j k : ℕ) → bit (2 ^ j) k ≡ eqb k j
+bit-power : (j k : ℕ) → bit (2 ^ j) k ≡ eqb k j
 unfolding bit
 bit-power zero zero = refl
 bit-power zero (suc k) = bit-suc 1 k ∙ bit-zero k ∙ sym (eqb·suc-zero k)
@@ -112,19 +112,19 @@ bit-power (suc j) (suc k) =
 
 -- Members.
 
-pub same-test : (a b c d : ℕ) → (a ≡ b → c ≡ d) → (c ≡ d → a ≡ b) → eqb a b ≡ eqb c d
+same-test : (a b c d : ℕ) → (a ≡ b → c ≡ d) → (c ≡ d → a ≡ b) → eqb a b ≡ eqb c d
 same-test a b c d f g = go (eqb c d) refl
   where
     go : (t : Bool) → eqb c d ≡ t → eqb a b ≡ t
     go true e = eq-eqb a b (g (eqb-true c d e))
     go false e = ne-eqb a b (λ p. eqb-false c d e (f p))
 
-pub member-words : (f : ℕ → ℕ) (r : ℕ) → r < 256 → member (words f) r ≡ bit (f (r / 64)) (r % 64)
+member-words : (f : ℕ → ℕ) (r : ℕ) → r < 256 → member (words f) r ≡ bit (f (r / 64)) (r % 64)
 unfolding member bit
 member-words f r h = ap (λ (w : ℕ). bit w (r % 64)) (getD-words f (r / 64) (omega arith))
 
 -- A change of state q's word that changes no bit of it but q's.
-pub member-changed :
+member-changed :
     (g : ℕ → ℕ) (h : Bool → Bool → Bool) (ws : List ℕ) (q r : ℕ) → r < 256
     → ((w k : ℕ) → bit (g w) k ≡ h (eqb k (q % 64)) (bit w k)) → ((b : Bool) → h false b ≡ b)
     → member (replaced ws (q / 64) (g (getD ws (q / 64) 0))) r ≡ h (eqb r q) (member ws r)
@@ -144,24 +144,23 @@ pub member-empty : (r : ℕ) → r < 256 → member emptySet r ≡ false
 unfolding emptySet
 member-empty r h = member-words (λ (i : ℕ). 0) r h ∙ bit-zero (r % 64)
 
-pub member-with : (ws : List ℕ) (q r : ℕ) → q < 256 → r < 256 → member (withState ws q) r ≡ (eqb r q || member ws r)
+pub member-with : (ws : List ℕ) (q r : ℕ) → r < 256 → member (withState ws q) r ≡ (eqb r q || member ws r)
 unfolding withState
-member-with ws q r hq hr =
-    member-changed (λ (w : ℕ). bitOr w (2 ^ (q % 64))) _||_ ws q r hr
+member-with ws q r h =
+    member-changed (λ (w : ℕ). bitOr w (2 ^ (q % 64))) _||_ ws q r h
     (λ w k. rw (bit-or, bit-power) (or-comm (bit w k) (eqb k (q % 64)))) (λ b. refl)
 
-pub set-then-flipped : (a b : Bool) → xor (a || b) b ≡ (not b && a)
+set-then-flipped : (a b : Bool) → xor (a || b) b ≡ (not b && a)
 unfolding xor
 set-then-flipped true true = refl
 set-then-flipped true false = refl
 set-then-flipped false true = refl
 set-then-flipped false false = refl
 
-pub member-without : (ws : List ℕ) (q r : ℕ) → q < 256 → r < 256
-    → member (withoutState ws q) r ≡ (not (eqb r q) && member ws r)
+pub member-without : (ws : List ℕ) (q r : ℕ) → r < 256 → member (withoutState ws q) r ≡ (not (eqb r q) && member ws r)
 unfolding withoutState
-member-without ws q r hq hr =
-    member-changed (λ (w : ℕ). bitXor (bitOr w (2 ^ (q % 64))) (2 ^ (q % 64))) (λ (t b : Bool). not t && b) ws q r hr
+member-without ws q r h =
+    member-changed (λ (w : ℕ). bitXor (bitOr w (2 ^ (q % 64))) (2 ^ (q % 64))) (λ (t b : Bool). not t && b) ws q r h
     (λ w k. rw (bit-xor, bit-or, bit-power) (set-then-flipped (bit w k) (eqb k (q % 64)))) (λ b. refl)
 
 pub member-union : (ws vs : List ℕ) (r : ℕ) → r < 256 → member (unionOf ws vs) r ≡ (member ws r || member vs r)
@@ -174,24 +173,23 @@ unfoldable pub elem : ℕ → List ℕ → Bool
 elem r [] = false
 elem r (q ∷ qs) = eqb r q || elem r qs
 
-pub or-rotate : (a b c : Bool) → (a || (b || c)) ≡ ((b || a) || c)
+or-rotate : (a b c : Bool) → (a || (b || c)) ≡ ((b || a) || c)
 or-rotate a true c = or-true a
 or-rotate a false c = refl
 
-pub member-withAll : (ws qs : List ℕ) (r : ℕ) → All (λ (q : ℕ). q < 256) qs → r < 256
-    → member (withAll ws qs) r ≡ (elem r qs || member ws r)
+pub member-withAll : (ws qs : List ℕ) (r : ℕ) → r < 256 → member (withAll ws qs) r ≡ (elem r qs || member ws r)
 unfolding withAll elem
-member-withAll ws [] r none h = refl
-member-withAll ws (q ∷ qs) r (also p ps) h =
-    member-withAll (withState ws q) qs r ps h ∙ ap (λ (t : Bool). elem r qs || t) (member-with ws q r p h)
+member-withAll ws [] r h = refl
+member-withAll ws (q ∷ qs) r h =
+    member-withAll (withState ws q) qs r h ∙ ap (λ (t : Bool). elem r qs || t) (member-with ws q r h)
     ∙ or-rotate (elem r qs) (eqb r q) (member ws r)
 
-pub member-setOf : (qs : List ℕ) (r : ℕ) → All (λ (q : ℕ). q < 256) qs → r < 256 → member (setOf qs) r ≡ elem r qs
+pub member-setOf : (qs : List ℕ) (r : ℕ) → r < 256 → member (setOf qs) r ≡ elem r qs
 unfolding setOf
-member-setOf qs r ps h =
-    member-withAll emptySet qs r ps h ∙ ap (λ (t : Bool). elem r qs || t) (member-empty r h) ∙ or-false (elem r qs)
+member-setOf qs r h =
+    member-withAll emptySet qs r h ∙ ap (λ (t : Bool). elem r qs || t) (member-empty r h) ∙ or-false (elem r qs)
 
-pub length-withAll : (ws qs : List ℕ) → length ws ≡ 4 → length (withAll ws qs) ≡ 4
+length-withAll : (ws qs : List ℕ) → length ws ≡ 4 → length (withAll ws qs) ≡ 4
 unfolding withAll withState replaced
 length-withAll ws [] e = e
 length-withAll ws (q ∷ qs) e = length-withAll (withState ws q) qs (length-words _)
@@ -200,20 +198,20 @@ pub length-setOf : (qs : List ℕ) → length (setOf qs) ≡ 4
 unfolding setOf emptySet
 length-setOf qs = length-withAll emptySet qs (length-words _)
 
-pub rising-above : {a : ℕ} {qs : List ℕ} → Rising (a ∷ qs) → All (λ (q : ℕ). a < q) qs
+rising-above : {a : ℕ} {qs : List ℕ} → Rising (a ∷ qs) → All (λ (q : ℕ). a < q) qs
 rising-above single = none
 rising-above (step h r) = also h (all-map (λ q l. omega arith) (rising-above r))
 
-pub rising-tail : {a : ℕ} {qs : List ℕ} → Rising (a ∷ qs) → Rising qs
+rising-tail : {a : ℕ} {qs : List ℕ} → Rising (a ∷ qs) → Rising qs
 rising-tail single = empty
 rising-tail (step h r) = r
 
-pub elem-above : (r : ℕ) {qs : List ℕ} → All (λ (q : ℕ). r < q) qs → elem r qs ≡ false
+elem-above : (r : ℕ) {qs : List ℕ} → All (λ (q : ℕ). r < q) qs → elem r qs ≡ false
 unfolding elem
 elem-above r none = refl
 elem-above r (also {x = q} h hs) = rw (ne-eqb r q (omega arith)) (elem-above r hs)
 
-pub keep-same : (f g : ℕ → Bool) (i n : ℕ) → ((r : ℕ) → i ≤ r → r < i + n → f r ≡ g r)
+keep-same : (f g : ℕ → Bool) (i n : ℕ) → ((r : ℕ) → i ≤ r → r < i + n → f r ≡ g r)
     → keep f (from i n) ≡ keep g (from i n)
 unfolding keep from
 keep-same f g i zero e = refl
@@ -221,7 +219,7 @@ keep-same f g i (suc n) e =
     ap₂ (λ (t : Bool) (l : List ℕ). cond t (i ∷ l) l) (e i (omega arith) (omega arith))
     (keep-same f g (suc i) n (λ r h l. e r (omega arith) (omega arith)))
 
-pub keep-elem : (n i : ℕ) (qs : List ℕ) → All (λ (q : ℕ). i ≤ q) qs → All (λ (q : ℕ). q < i + n) qs → Rising qs
+keep-elem : (n i : ℕ) (qs : List ℕ) → All (λ (q : ℕ). i ≤ q) qs → All (λ (q : ℕ). q < i + n) qs → Rising qs
     → keep (λ (r : ℕ). elem r qs) (from i n) ≡ qs
 unfolding keep from elem
 keep-elem zero i [] lows highs rise = refl
@@ -254,18 +252,17 @@ keep-elem (suc n) i (q ∷ qs) (also low lows) (also high highs) rise = go (keep
 pub states-of-set : (qs : List ℕ) (n : ℕ) → n ≤ 256 → All (λ (q : ℕ). q < n) qs → Rising qs
     → keep (member (setOf qs)) (from 0 n) ≡ qs
 states-of-set qs n h highs rise =
-    keep-same (member (setOf qs)) (λ (r : ℕ). elem r qs) 0 n
-    (λ r low high. member-setOf qs r (all-map (λ q l. omega arith) highs) (omega arith))
+    keep-same (member (setOf qs)) (λ (r : ℕ). elem r qs) 0 n (λ r low high. member-setOf qs r (omega arith))
     ∙ keep-elem n 0 qs (all-map (λ q l. omega arith) highs) (all-map (λ q l. omega arith) highs) rise
 
 -- Sets with the same members.
 
-pub same-digit : (x y : ℕ) → x < 2 → y < 2 → eqb x 1 ≡ eqb y 1 → x ≡ y
+same-digit : (x y : ℕ) → x < 2 → y < 2 → eqb x 1 ≡ eqb y 1 → x ≡ y
 same-digit =
     two-digits (λ (x y : ℕ). eqb x 1 ≡ eqb y 1 → x ≡ y) (λ e. refl) (λ e. absurd (false≢true e))
     (λ e. absurd (true≢false e)) (λ e. refl)
 
-pub same-bits : (n a b : ℕ) → a < 2 ^ n → b < 2 ^ n → ((k : ℕ) → k < n → bit a k ≡ bit b k) → a ≡ b
+same-bits : (n a b : ℕ) → a < 2 ^ n → b < 2 ^ n → ((k : ℕ) → k < n → bit a k ≡ bit b k) → a ≡ b
 unfolding bit
 same-bits zero a b ha hb same = omega arith
 same-bits (suc n) a b ha hb same =

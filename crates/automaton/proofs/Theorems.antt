@@ -45,23 +45,23 @@ pub decoded-means : (A : Automaton) → WellFormed A → (x y : List ℕ)
 decoded-means = meaning.automaton-back
 
 -- What `decode` answers for a table that it does not refuse can be written, and is then the table's own bytes.
-pub decoded-writable : (b : List ℕ) (r : Decoded) (size : Size) (ranks ranks′ table table′ : List ℕ)
-    → Decodes b r ranks ranks′ table table′ → r .judged ≡ Table size
-    → (size .symbols ≤ 256) × WellFormed (automatonIn size (r .finals .words) ranks′ table′)
+pub decoded-writable : (b : List ℕ) (r : Decoded) (size : Size) (ranks ranks′ cells cells′ : List ℕ)
+    → Decodes b r ranks ranks′ cells cells′ → r .judged ≡ Table size
+    → (size .symbols ≤ 256) × WellFormed (automatonIn size (r .finals .words) ranks′ cells′)
 decoded-writable = meaning.decoded-writable
 
-pub decoded-encodes : (b : List ℕ) (r : Decoded) (size : Size) (ranks ranks′ table table′ : List ℕ) → ((i : ℕ) → getD b i 0 < 256)
-    → Decodes b r ranks ranks′ table table′ → r .judged ≡ Table size → encode (automatonIn size (r .finals .words) ranks′ table′) ≡ b
+pub decoded-encodes : (b : List ℕ) (r : Decoded) (size : Size) (ranks ranks′ cells cells′ : List ℕ) → ((i : ℕ) → getD b i 0 < 256)
+    → Decodes b r ranks ranks′ cells cells′ → r .judged ≡ Table size → encode (automatonIn size (r .finals .words) ranks′ cells′) ≡ b
 decoded-encodes = meaning.decoded-encodes
 
 -- The members of the empty set, of a set with a state, of a set without one, and of a union.
 pub empty-members : (r : ℕ) → r < 256 → member emptySet r ≡ false
 empty-members = sets.member-empty
 
-pub with-members : (ws : List ℕ) (q r : ℕ) → q < 256 → r < 256 → member (withState ws q) r ≡ (eqb r q || member ws r)
+pub with-members : (ws : List ℕ) (q r : ℕ) → r < 256 → member (withState ws q) r ≡ (eqb r q || member ws r)
 with-members = sets.member-with
 
-pub without-members : (ws : List ℕ) (q r : ℕ) → q < 256 → r < 256 → member (withoutState ws q) r ≡ (not (eqb r q) && member ws r)
+pub without-members : (ws : List ℕ) (q r : ℕ) → r < 256 → member (withoutState ws q) r ≡ (not (eqb r q) && member ws r)
 without-members = sets.member-without
 
 pub union-members : (ws vs : List ℕ) (r : ℕ) → r < 256 → member (unionOf ws vs) r ≡ (member ws r || member vs r)

@@ -7,10 +7,10 @@ use native.Mathlib.Nat.{add-assoc, add-zero, zero-add, add-suc, suc-add, le-of-e
 use native.Mathlib.Numerals.{add-one, add-two}
 use native.Mathlib.Omega.{arith}
 use lib.ListN.{length, getD, take, drop, set, length-append, length-take, length-drop, length-map}
-use lib.Seq.{take-length, take-take, take-suc, drop-drop, drop-cons, getD-take, getD-drop, length-take-le, sets-eq}
+use lib.Seq.{take-length, take-take, take-suc, take-at, drop-at, drop-drop, drop-cons, getD-take, getD-drop, length-take-le, sets-eq}
 use lib.Seq.{paste, paste-zero, paste-suc, take-paste, drop-paste}
 use borrow.Author.Tests.{le-leb, lt-leb}
-use Rattle.automaton.specs.Lists.{All, none, also, from, keep}
+use Rattle.automaton.specs.Lists.{All, also, from, keep}
 use Rattle.automaton.specs.Bytes.{bytes2, bytes4, fields}
 use Rattle.automaton.specs.Automaton.{Rule, WellFormedRule, WellFormed}
 use Rattle.automaton.specs.Record.{encodeRecord}
@@ -28,9 +28,11 @@ pub over-nil : (out : List ℕ) (at : ℕ) → out ≡ over out at []
 unfolding over
 over-nil out at = paste-zero out at []
 
-pub over-zero : (out bytes : List ℕ) → over out 0 bytes ≡ bytes ++ drop (length bytes) out
+-- A run behind a first part.
+pub over-behind : (p q bytes : List ℕ) (at : ℕ) → length p ≡ at → over (p ++ q) at bytes ≡ (p ++ bytes) ++ drop (length bytes) q
 unfolding over
-over-zero out bytes = simp (take-length, zero-add)
+over-behind p q bytes at e =
+    rw (take-at p q at e, take-length bytes, ← (drop-drop (length bytes) at (p ++ q)), drop-at p q at e)
 
 -- A turn of a loop that copies.
 pub over-copy : (out : List ℕ) (at : ℕ) (src : List ℕ) (j : ℕ) → j < length src → at + j < length out
@@ -43,7 +45,7 @@ over-copy out at src j h l =
     pasted n h = rw (length-take-le n src h, take-take n n src (omega arith))
 
 -- One run behind another is one run.
-pub over-over : (out : List ℕ) (at : ℕ) (xs ys : List ℕ) (k : ℕ) → k ≡ at + length xs → k + length ys ≤ length out
+over-over : (out : List ℕ) (at : ℕ) (xs ys : List ℕ) (k : ℕ) → k ≡ at + length xs → k + length ys ≤ length out
     → over (over out at xs) k ys ≡ over out at (xs ++ ys)
 unfolding over
 over-over out at xs ys k e h =
@@ -77,7 +79,7 @@ pub record Run : Type 0 where
 pub length-step : (r : Run) (j : ℕ) → length (r .upto (j + 1)) ≡ length (r .upto j) + length (r .turn j)
 length-step r j = ap length (r .step j) ∙ length-append (r .upto j) (r .turn j)
 
-pub length-grows : (r : Run) (d j n : ℕ) → j + d ≡ n → length (r .upto j) ≤ length (r .upto n)
+length-grows : (r : Run) (d j n : ℕ) → j + d ≡ n → length (r .upto j) ≤ length (r .upto n)
 length-grows r zero j n e = le-of-eq (ap (λ (i : ℕ). length (r .upto i)) (omega arith))
 length-grows r (suc d) j n e = omega (arith, length-step r j, length-grows r d (j + 1) n (omega arith))
 
@@ -99,12 +101,12 @@ pub bytes4-halves : (v : ℕ) → bytes4 v ≡ bytes2 (v % 65536) ++ bytes2 (v /
 unfolding bytes4 bytes2
 bytes4-halves v = ap₂ (λ (low high : ℕ). low ∷ high ∷ bytes2 (v / 65536)) (omega arith) (omega arith)
 
-pub fields-append : (us vs : List ℕ) → fields (us ++ vs) ≡ fields us ++ fields vs
+fields-append : (us vs : List ℕ) → fields (us ++ vs) ≡ fields us ++ fields vs
 unfolding fields bytes2
 fields-append [] vs = refl
 fields-append (u ∷ us) vs = ap (λ (l : List ℕ). bytes2 u ++ l) (fields-append us vs)
 
-pub fields-single : (v : ℕ) → fields (v ∷ []) ≡ bytes2 v
+fields-single : (v : ℕ) → fields (v ∷ []) ≡ bytes2 v
 unfolding fields bytes2
 fields-single v = refl
 
@@ -133,7 +135,7 @@ over-record out at kind size now body next e f sized fits =
 
 -- Ranges and states.
 
-pub from-step : (i n : ℕ) → from i (n + 1) ≡ from i n ++ ((i + n) ∷ [])
+from-step : (i n : ℕ) → from i (n + 1) ≡ from i n ++ ((i + n) ∷ [])
 unfolding from
 from-step i n = rw add-one (go i n)
   where
@@ -141,12 +143,12 @@ from-step i n = rw add-one (go i n)
     go i zero = ap (λ (j : ℕ). j ∷ []) (omega arith)
     go i (suc n) = ap₂ _∷_ refl (go (suc i) n ∙ ap (λ (j : ℕ). from (suc i) n ++ (j ∷ [])) (omega arith))
 
-pub length-from : (i n : ℕ) → length (from i n) ≡ n
+length-from : (i n : ℕ) → length (from i n) ≡ n
 unfolding from
 length-from i zero = refl
 length-from i (suc n) = ap suc (length-from (suc i) n)
 
-pub keep-append : (test : ℕ → Bool) (us vs : List ℕ) → keep test (us ++ vs) ≡ keep test us ++ keep test vs
+keep-append : (test : ℕ → Bool) (us vs : List ℕ) → keep test (us ++ vs) ≡ keep test us ++ keep test vs
 unfolding keep
 keep-append test [] vs = refl
 keep-append test (u ∷ us) vs = go (test u) (keep-append test us vs)
@@ -157,7 +159,7 @@ keep-append test (u ∷ us) vs = go (test u) (keep-append test us vs)
     go true e = ap (λ (l : List ℕ). u ∷ l) e
     go false e = e
 
-pub length-keep : (test : ℕ → Bool) (vs : List ℕ) → length (keep test vs) ≤ length vs
+length-keep : (test : ℕ → Bool) (vs : List ℕ) → length (keep test vs) ≤ length vs
 unfolding keep
 length-keep test [] = omega arith
 length-keep test (v ∷ vs) = go (test v) (length-keep test vs)
@@ -201,7 +203,7 @@ pub room-for-head : (u : Rule) → 6 ≤ length (encodeRule u)
 unfolding encodeRule
 room-for-head u = omega (arith, length-record 4 (fields (u .symbol ∷ u .target ∷ u .children)))
 
-pub take-two : (vs : List ℕ) (at n : ℕ) → at + 2 ≤ length vs
+take-two : (vs : List ℕ) (at n : ℕ) → at + 2 ≤ length vs
     → take (2 + n) (drop at vs) ≡ getD vs at 0 ∷ getD vs (at + 1) 0 ∷ take n (drop (at + 2) vs)
 take-two vs at n h =
     let two : 2 + n ≡ suc (suc n) = omega arith in
@@ -230,7 +232,7 @@ module _ (ranks rows : List ℕ) (i : ℕ) (h : 10 * i + 10 ≤ length rows) whe
   length-rule small =
       omega (arith, ap length encodeRule-row, length-record 4 (rowFields ranks rows i), length-rowFields small)
 
-pub encodeRules-append : (us vs : List Rule) → encodeRules (us ++ vs) ≡ encodeRules us ++ encodeRules vs
+encodeRules-append : (us vs : List Rule) → encodeRules (us ++ vs) ≡ encodeRules us ++ encodeRules vs
 unfolding encodeRules
 encodeRules-append [] vs = refl
 encodeRules-append (u ∷ us) vs =
@@ -250,20 +252,20 @@ rules f = record
 pub room-enough : (bytes out : List ℕ) → length bytes ≤ length out
     → (written bytes out ≡ found (length bytes)) × (writtenOver bytes out ≡ over out 0 bytes)
 unfolding written writtenOver
-room-enough bytes out h = rw (le-leb (length bytes) (length out) h) (refl, sym (over-zero out bytes))
+room-enough bytes out h = rw (le-leb (length bytes) (length out) h) (refl, sym (over-behind [] out bytes 0 refl))
 
 pub room-short : (bytes out : List ℕ) → length out < length bytes
     → (written bytes out ≡ refused 13) × (writtenOver bytes out ≡ out)
 unfolding written writtenOver
 room-short bytes out h = rw (lt-leb (length bytes) (length out) h) (refl, refl)
 
-pub all-from : (P : Rule → Type 0) (f : ℕ → Rule) (i n : ℕ) → All P (map f (from i n)) → (j : ℕ) → j < n → P (f (i + j))
+all-from : (P : Rule → Type 0) (f : ℕ → Rule) (i n : ℕ) → All P (map f (from i n)) → (j : ℕ) → j < n → P (f (i + j))
 unfolding from
 all-from P f i zero ps j h = absurd (omega arith)
 all-from P f i (suc n) (also p ps) zero h = rw add-zero p
 all-from P f i (suc n) (also p ps) (suc j) h = rw (add-suc, ← suc-add) (all-from P f (suc i) n ps j (omega arith))
 
-module _ (size : Size) (finals ranks table : List ℕ) where
+module _ (size : Size) (finals ranks rows : List ℕ) where
   abbrev pub size-record : List ℕ
   size-record = encodeRecord 1 (fields (size .states ∷ size .symbols ∷ size .rules ∷ []))
 
@@ -274,10 +276,10 @@ module _ (size : Size) (finals ranks table : List ℕ) where
   finals-record = encodeRecord 3 (fields (keep (member finals) (from 0 (size .states))))
 
   abbrev pub rule-records : List ℕ
-  rule-records = encodeRules (map (ruleAt ranks table) (from 0 (size .rules)))
+  rule-records = encodeRules (map (ruleAt ranks rows) (from 0 (size .rules)))
 
   module _ (h : size .symbols ≤ length ranks) where
-    pub encode-records : encode (automatonIn size finals ranks table)
+    encode-records : encode (automatonIn size finals ranks rows)
         ≡ size-record ++ ranks-record ++ finals-record ++ rule-records
     unfolding encode automatonIn
     encode-records = rw (length-take-le (size .symbols) ranks h, length-map, length-from) (simp append-assoc)
@@ -292,16 +294,16 @@ module _ (size : Size) (finals ranks table : List ℕ) where
         ≡ 24 + size .symbols + 2 * length (keep (member finals) (from 0 (size .states)))
     length-three = rw (length-append, length-two, length-record, length-fields) (omega arith)
 
-    pub length-encode : length (encode (automatonIn size finals ranks table))
+    pub length-encode : length (encode (automatonIn size finals ranks rows))
         ≡ 24 + size .symbols + 2 * length (keep (member finals) (from 0 (size .states))) + length rule-records
     length-encode = rw (encode-records, length-append, length-three)
 
     -- The four parts, each written behind the one before.
     pub over-records : (out : List ℕ) (count : ℕ) → count ≡ length (keep (member finals) (from 0 (size .states)))
-        → length (encode (automatonIn size finals ranks table)) ≤ length out → (a b c d : List ℕ)
+        → length (encode (automatonIn size finals ranks rows)) ≤ length out → (a b c d : List ℕ)
         → a ≡ over out 0 size-record → b ≡ over a 12 ranks-record → c ≡ over b (18 + size .symbols) finals-record
         → d ≡ over c (24 + size .symbols + 2 * count) rule-records
-        → d ≡ over out 0 (encode (automatonIn size finals ranks table))
+        → d ≡ over out 0 (encode (automatonIn size finals ranks rows))
     over-records out count e fits a b c d p q r s =
         let one = length-first in
         let two = length-two in
@@ -314,7 +316,7 @@ module _ (size : Size) (finals ranks table : List ℕ) where
         r (omega arith) (omega (arith, length-append (size-record ++ ranks-record) finals-record)))
         s (omega arith) (omega arith))
 
-  module _ (wf : WellFormed (automatonIn size finals ranks table)) where
+  module _ (wf : WellFormed (automatonIn size finals ranks rows)) where
     pub few-states : size .states ≤ 256
     unfolding automatonIn
     few-states = wf .states
@@ -323,15 +325,15 @@ module _ (size : Size) (finals ranks table : List ℕ) where
     unfolding automatonIn
     few-rules = rw (length-map, length-from) at (wf .count)
 
-    pub row-fits : (i : ℕ) → i < size .rules → RowFits ranks table i
+    pub row-fits : (i : ℕ) → i < size .rules → RowFits ranks rows i
     unfolding automatonIn ruleAt
     row-fits i h =
-        let u : WellFormedRule (automatonIn size finals ranks table) (ruleAt ranks table i) =
-        rw zero-add at (all-from _ (ruleAt ranks table) 0 (size .rules) (wf .rules) i h) in
-        let symbol : ℕ = getD table (10 * i) 0 in
+        let u : WellFormedRule (automatonIn size finals ranks rows) (ruleAt ranks rows i) =
+        rw zero-add at (all-from _ (ruleAt ranks rows) 0 (size .rules) (wf .rules) i h) in
+        let symbol : ℕ = getD rows (10 * i) 0 in
         let known : symbol < length (take (size .symbols) ranks) = u .symbol in
         let below : symbol < size .symbols = omega (arith, length-take (size .symbols) ranks) in
         record {
-          symbol = omega (arith, wf .symbols);
+          symbol = omega arith;
           rank = rw (getD-take (size .symbols) ranks symbol 0 below) at (all-at (wf .ranks) symbol known);
         }

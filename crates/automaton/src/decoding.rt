@@ -19,6 +19,7 @@ use crate::record::open;
 use crate::set::StateSet;
 use crate::table::Judged;
 use crate::table::judge;
+use crate::writing::put_bytes;
 
 // What judging a table answers, and its final states: none where it is refused.
 pub struct Decoded {
@@ -35,18 +36,6 @@ fn first_end(t: &[u8]) -> usize
         return t.len();
     };
     end
-}
-
-// The ranks of a table, at the start of `ranks`.
-fn copy_ranks(b: &[u8], ranks: &mut [u8])
-    requires { ⌜ length (now b) ≤ length (now ranks) ⌝ }
-    ensures { λ _. ⌜ now (ranks .exit) ≡ now (b .entry) ++ drop (length (now (b .entry))) (now (ranks .entry)) ⌝ }
-{
-    let mut i: usize = 0;
-    while i < b.len() {
-        ranks[i] = b[i];
-        i += 1;
-    }
 }
 
 // The set of the two-byte numbers of `b`.
@@ -127,7 +116,8 @@ pub fn decode(t: &[u8], ranks: &mut [u8; 256], rows: &mut [u16; 10240]) -> Decod
     };
     let head_end = first_end(t);
     let ranked = &t[head_end..];
-    copy_ranks(body(ranked), ranks);
+    let b = body(ranked);
+    put_bytes(ranks, 0, b, b.len());
     let ranks_end = first_end(ranked);
     Decoded {
         judged,

@@ -57,7 +57,7 @@ fn put_fields(out: &mut [u8], at: usize, src: &[u16], start: usize, count: usize
 }
 
 // The first `count` bytes of `src`.
-fn put_bytes(out: &mut [u8], at: usize, src: &[u8], count: usize)
+pub fn put_bytes(out: &mut [u8], at: usize, src: &[u8], count: usize)
     requires { ⌜ at + count ≤ length (now out) ⌝ }
     requires { ⌜ count ≤ length (now src) ⌝ }
     ensures { λ _. ⌜ now (out .exit) ≡ over (now (out .entry)) at (take count (now (src .entry))) ⌝ }
@@ -119,7 +119,8 @@ fn put_rule(out: &mut [u8], at: usize, ranks: &[u8; 256], rows: &[u16; 10240], i
     requires { ⌜ RowFits (now ranks) (now rows) i ⌝ }
     requires { ⌜ at + length (encodeRule (decoded.ruleAt (now ranks) (now rows) i)) ≤ length (now out) ⌝ }
     ensures { λ r. ⌜ r ≡ at + length (encodeRule (decoded.ruleAt (now (ranks .entry)) (now (rows .entry)) i)) ⌝ }
-    ensures { λ r. ⌜ now (out .exit) ≡ over (now (out .entry)) at (encodeRule (decoded.ruleAt (now (ranks .entry)) (now (rows .entry)) i)) ⌝ }
+    ensures { λ r. ⌜ now (out .exit) ≡ over (now (out .entry)) at
+        (encodeRule (decoded.ruleAt (now (ranks .entry)) (now (rows .entry)) i)) ⌝ }
 {
     let symbol = rows[10 * i] as usize;
     let rank = ranks[symbol] as usize;

@@ -3,8 +3,9 @@ use borrow.Author.Needs.{needs}
 use native.Mathlib.Omega.{arith}
 use Prim.Native.Nat.{ℕ, _-_, _*_, _≤_, _<_}
 use mathlib.Core.Path.{_≡_, refl, sym, ap, _∙_}
-use mathlib.Core.List.{List, _++_}
+use mathlib.Core.List.{List, [], _++_}
 use lib.ListN.{length, take, drop}
+use lib.Seq.{take-length}
 use denote.Ref.{now}
 use Rattle.automaton.specs.Lists.{All}
 use Rattle.automaton.specs.Bytes.{numbers}
@@ -20,31 +21,32 @@ use Rattle.automaton.specs.declared.set.StateSet.{StateSet}
 use Rattle.automaton.specs.declared.table.Size.{Size}
 use Rattle.automaton.specs.declared.table.Judged.{Judged}
 use Rattle.automaton.specs.declared.table.Judged.the-variants as judged
-use Rattle.automaton.proofs.Inversion.{judge-parts}
+use Rattle.automaton.proofs.Inversion.{refused≢found, judge-parts}
 use Rattle.automaton.proofs.Encoding.{judge-well-formed}
 use Rattle.automaton.proofs.Elements.{all-map}
 use Rattle.automaton.proofs.Copying.{end-within, part-behind}
+use Rattle.automaton.proofs.WrittenBytes.{over-behind}
 use Rattle.automaton.proofs.decoding.decode.Statement.{statement}
 use Rattle.automaton.proofs.decoding.decode.Tie as tie
 
 -- What the judge found, by the counts or the cause that it answers.
 refusal-judged : (r : Read Automaton) {cause : ℕ} → sized r ≡ refused cause → r ≡ refused cause
 unfolding sized mapRead
-refusal-judged (found A) h = absurd (let z : _≡_ {A = ℕ} 0 1 = cc in omega arith)
+refusal-judged (found A) h = absurd (refused≢found (sym h))
 refusal-judged (refused cause) h = cc
 
 table-judged : (r : Read Automaton) {size : Size} → sized r ≡ found size
     → (A : Automaton) × (r ≡ found A) × (length (A .rules) ≡ size .rules)
 unfolding sized mapRead sizeOf
 table-judged (found A) {size} h = let e : sizeOf A ≡ size = cc in (A, refl, ap (λ (s : Size). s .rules) e)
-table-judged (refused cause) h = absurd (let z : _≡_ {A = ℕ} 0 1 = cc in omega arith)
+table-judged (refused cause) h = absurd (refused≢found h)
 
 -- A refusal.
-refusal-decodes : (b : List ℕ) (o : Judged) (finals : StateSet) (ranks table : List ℕ) {cause : ℕ}
+refusal-decodes : (b : List ℕ) (o : Judged) (finals : StateSet) (ranks cells : List ℕ) {cause : ℕ}
     → judgementOf o ≡ sized (judge b) → judgementOf o ≡ refused cause → finals .words ≡ emptySet
-    → Decodes b (record { judged = o; finals = finals }) ranks ranks table table
+    → Decodes b (record { judged = o; finals = finals }) ranks ranks cells cells
 unfolding finalsOf ranksAfter rowsAfter
-refusal-decodes b o finals ranks table h r e =
+refusal-decodes b o finals ranks cells h r e =
     let j = refusal-judged (judge b) (sym h ∙ r) in
     record { answer = h; finals = rw j e; ranks-after = rw j; rows-after = rw j }
 
@@ -70,14 +72,14 @@ module _ (b : List ℕ) (size : Size) (h : judgementOf (judged.Table size) ≡ s
       let (A, is, k) = table-is in
       rw (← k) (judge-well-formed b A is .count)
 
-  table-decodes : (finals : StateSet) (ranks ranks′ table table′ : List ℕ)
+  table-decodes : (finals : StateSet) (ranks ranks′ cells cells′ : List ℕ)
       → finals .words ≡ setOf (numbers (bodyOf (restOf (restOf b))))
       → ranks′ ≡ bodyOf (restOf b) ++ drop (length (bodyOf (restOf b))) ranks
       → ((n : ℕ) (rs : List ℕ) (us : List Rule) → judgeRules n rs (size .rules) (restOf (restOf (restOf b))) ≡ found us
-      → table′ ≡ rows us ++ drop (10 * size .rules) table)
-      → Decodes b (record { judged = judged.Table size; finals = finals }) ranks ranks′ table table′
+      → cells′ ≡ rows us ++ drop (10 * size .rules) cells)
+      → Decodes b (record { judged = judged.Table size; finals = finals }) ranks ranks′ cells cells′
   unfolding finalsOf ranksAfter rowsAfter
-  table-decodes finals ranks ranks′ table table′ f r t =
+  table-decodes finals ranks ranks′ cells cells′ f r t =
       let (A, is, k) = table-is in
       let p = judge-parts b is in
       record {
@@ -109,11 +111,10 @@ behind-head : (c : tie.After-first-end)
     take (length t - end) (drop end t) ≡ restOf t
 behind-head c = part-behind _ (c .first-end .ensures)
 
-copy-ranks-requires : tie.Need-copy-ranks-requires
-copy-ranks-requires c κs =
+put-bytes-requires : tie.Need-put-bytes-requires
+put-bytes-requires c κs =
     let f = c .before .before .before in
-    rw (c .before .body .ensures, behind-head f, c .copy-ranks-arg .given .0 .1)
-    (few-ranks _ _ (table-answered (f .before)))
+    rw (c .before .body .ensures, behind-head f) (omega (arith, few-ranks _ _ (table-answered (f .before))))
 
 part-finals-start : tie.Need-part-decode-finals-start
 part-finals-start c = rw (c .first-end2 .ensures) (end-within _)
@@ -131,7 +132,7 @@ decode-finals-requires : tie.Need-decode-finals-requires
 decode-finals-requires c κs =
     let e = c .before .before in
     let h = table-answered (e .before .before .before .before .before .before) in
-    (rw (behind-ranks e) (low-finals _ _ h), omega (arith, few-rules _ _ h, c .decode-finals-arg2 .given .0 .1))
+    (rw (behind-ranks e) (low-finals _ _ h), omega (arith, few-rules _ _ h))
 
 returns-2 : tie.Need-returns-2
 returns-2 c =
@@ -140,7 +141,7 @@ returns-2 c =
     let f = b .before .before in
     table-decodes _ _ (table-answered (f .before)) _ _ _ _ _
     (rw (behind-ranks e) at (c .decode-finals .ensures .0))
-    (rw (b .body .ensures, behind-head f) at (e .before .copy-ranks .ensures))
+    (rw (take-length, over-behind [] _ _ 0 refl, b .body .ensures, behind-head f) at (e .before .put-bytes .ensures))
     (λ n ranks us h. c .decode-finals .ensures .1 n ranks us (rw (behind-ranks e) h))
 
 pub decode-spec : {M : Type 1} → statement M
@@ -157,7 +158,7 @@ decode-spec =
     part-ranked-start
     (λ c. search needs)
     (λ c κs. search needs)
-    copy-ranks-requires
+    put-bytes-requires
     (λ c κs. search needs)
     part-finals-start
     part-finals-start

@@ -2,9 +2,8 @@
 use borrow.Author.Needs.{needs}
 use borrow.Author.Tests.{lt-ltb, le-ltb}
 use native.Mathlib.Omega.{arith}
-use Prim.Native.Nat.{ℕ, _+_, _-_, _≤_, _<_}
-use mathlib.Core.Path.{_≡_, refl, sym, _∙_}
-use mathlib.Core.List.{List}
+use Prim.Native.Nat.{ℕ, _-_, _≤_}
+use mathlib.Core.Path.{_≡_, sym, _∙_}
 use mathlib.Core.Bool.{Bool}
 use lib.ListN.{length, drop}
 use lib.Dec.{ltb}
@@ -24,38 +23,18 @@ Inv-loop b n i₀ i = (i ≤ length b) × (all (below n) (numbers b) ≡ all (be
 abbrev μ-loop : tie.MeasureT-loop
 μ-loop b n i₀ i = length b - i
 
-loop-holds : tie.Need-loop-holds Inv-loop μ-loop
-loop-holds c = search needs
-
-add-loop : tie.Need-add-loop Inv-loop μ-loop
-add-loop c = search needs
-
-number2-requires : tie.Need-number2-requires Inv-loop μ-loop
-number2-requires c κs = search needs
-
-cast-if1 : tie.Need-cast-if1 Inv-loop μ-loop
-cast-if1 c = search needs
-
 returns : tie.Need-returns Inv-loop μ-loop
 returns c =
     let a = c .before .before .before .before .before .args in
     let l = c .before .before .before .loop in
-    let e = c .before .number2 .ensures in
-    sym (l .inv .1 ∙ fields-stop (below (a .n)) (now (a .b)) (l .i) (search needs) (le-ltb _ (a .n) (omega (arith, e))))
-
-add-i : tie.Need-add-i Inv-loop μ-loop
-add-i c = search needs
-
-loop-less : tie.Need-loop-less Inv-loop μ-loop
-loop-less c = search needs
+    sym (l .inv .1 ∙ fields-stop (below (a .n)) (now (a .b)) (l .i) (search needs) (le-ltb _ (a .n) (omega arith)))
 
 loop-again : tie.Need-loop-again Inv-loop μ-loop
 loop-again c =
     let a = c .before .before .before .before .before .args in
-    let l = c .before .before .before .loop in
-    let e = c .before .number2 .ensures in (
+    let l = c .before .before .before .loop in (
       search needs,
-      l .inv .1 ∙ fields-go-on (below (a .n)) (now (a .b)) (l .i) (search needs) (lt-ltb _ (a .n) (omega (arith, e))),
+      l .inv .1 ∙ fields-go-on (below (a .n)) (now (a .b)) (l .i) (search needs) (lt-ltb _ (a .n) (omega arith)),
     )
 
 returns-2 : tie.Need-returns-2 Inv-loop μ-loop
@@ -67,12 +46,12 @@ all-below-spec =
     (tie.spec
     Inv-loop
     μ-loop
-    loop-holds
-    add-loop
-    number2-requires
-    cast-if1
+    (λ c. search needs)
+    (λ c. search needs)
+    (λ c κs. search needs)
+    (λ c. search needs)
     returns
-    add-i
-    loop-less
+    (λ c. search needs)
+    (λ c. search needs)
     loop-again
     returns-2)

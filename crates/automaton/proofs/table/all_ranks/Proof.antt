@@ -1,10 +1,8 @@
 -- `automaton::table::all_ranks` meets its contract: the bytes from the index on decide what all bytes decide.
 use borrow.Author.Needs.{needs}
-use native.Mathlib.Omega.{arith}
-use Prim.Native.Nat.{ℕ, _+_, _-_, _≤_, _<_}
+use Prim.Native.Nat.{ℕ, _-_, _≤_}
 use mathlib.Core.Path.{_≡_, sym, _∙_}
 use mathlib.Core.Bool.{Bool}
-use denote.Ref.{now}
 use borrow.Author.Tests.{le-leb, lt-leb}
 use lib.ListN.{length, drop}
 use lib.Dec.{leb}
@@ -22,23 +20,15 @@ Inv-loop b i₀ i = (i ≤ length b) × (all is-rank b ≡ all is-rank (drop i b
 abbrev μ-loop : tie.MeasureT-loop
 μ-loop b i₀ i = length b - i
 
-loop-holds : tie.Need-loop-holds Inv-loop μ-loop
-loop-holds c = search needs
-
-shared-slice-read-if1 : tie.Need-shared-slice-read-if1 Inv-loop μ-loop
-shared-slice-read-if1 c = search needs
-
 returns : tie.Need-returns Inv-loop μ-loop
-returns c = let l = c .before .before .before .loop in sym (l .inv .1 ∙ bytes-stop is-rank _ (l .i) (search needs) (lt-leb _ 8 (c .if1 .taken)))
-
-add-i : tie.Need-add-i Inv-loop μ-loop
-add-i c = search needs
-
-loop-less : tie.Need-loop-less Inv-loop μ-loop
-loop-less c = search needs
+returns c =
+    let l = c .before .before .before .loop in
+    sym (l .inv .1 ∙ bytes-stop is-rank _ (l .i) (search needs) (lt-leb _ 8 (c .if1 .taken)))
 
 loop-again : tie.Need-loop-again Inv-loop μ-loop
-loop-again c = let l = c .before .before .before .loop in (search needs, l .inv .1 ∙ bytes-go-on is-rank _ (l .i) (search needs) (le-leb _ 8 (c .if1 .left)))
+loop-again c =
+    let l = c .before .before .before .loop in
+    (search needs, l .inv .1 ∙ bytes-go-on is-rank _ (l .i) (search needs) (le-leb _ 8 (c .if1 .left)))
 
 returns-2 : tie.Need-returns-2 Inv-loop μ-loop
 returns-2 c = let l = c .before .loop in sym (l .inv .1 ∙ bytes-end is-rank _ (l .i) (search needs))
@@ -49,10 +39,10 @@ all-ranks-spec =
     (tie.spec
     Inv-loop
     μ-loop
-    loop-holds
-    shared-slice-read-if1
+    (λ c. search needs)
+    (λ c. search needs)
     returns
-    add-i
-    loop-less
+    (λ c. search needs)
+    (λ c. search needs)
     loop-again
     returns-2)

@@ -1,6 +1,7 @@
 -- `automaton::table::judge_end` meets its contract: nothing is left, no record is due, or one stands where none may.
 use borrow.Author.Needs.{needs}
-use mathlib.Core.Path.{_≡_, sym, ap, _∙_}
+use mathlib.Core.Path.{sym}
+use Rattle.automaton.proofs.Answered.{told}
 use Rattle.automaton.proofs.Judging.{end-empty, end-refused, end-more}
 use Rattle.automaton.proofs.table.judge_end.Statement.{statement}
 use Rattle.automaton.proofs.table.judge_end.Tie as tie
@@ -15,14 +16,14 @@ unfolding placeOf verdictOf
 returns-2 c =
     sym
     (end-refused _ (c .before .before .before .before .if1 .left)
-    (sym (c .before .before .before .due .ensures) ∙ ap placeOf (c .before .cause .given .1)))
+    (told placeOf (c .before .before .before .due .ensures) (c .before .cause .given .1)))
 
 returns-3 : tie.Need-returns-3
 unfolding placeOf verdictOf
 returns-3 c =
     sym
     (end-more _ (c .before .before .before .if1 .left)
-    (sym (c .before .before .due .ensures) ∙ ap placeOf (c .enum-told .given .1)))
+    (told placeOf (c .before .before .due .ensures) (c .enum-told .given .1)))
 
 pub judge-end-spec : {M : Type 1} → statement M
 judge-end-spec =

@@ -1,42 +1,39 @@
 -- `automaton::table::judge_ranks` meets its contract: each return is one of the ways through `judgeRanks`.
 use borrow.Author.Needs.{needs}
 use borrow.Author.Tests.{not-true, not-false}
-use Prim.Native.Nat.{_≤_}
-use mathlib.Core.Path.{_≡_, sym, ap, _∙_}
-use lib.ListN.{length}
+use mathlib.Core.Path.{_≡_, sym, _∙_}
 use denote.Ref.{now}
-use Rattle.automaton.specs.Read.{found}
-use Rattle.automaton.specs.Table.{due}
-use Rattle.automaton.specs.Inner.{placeOf, verdictOf}
+use Rattle.automaton.specs.Read.{found, _>>=_}
+use Rattle.automaton.specs.Table.{due, judgeRanks}
+use Rattle.automaton.specs.Inner.{passing, placeOf, verdictOf}
 use Rattle.automaton.proofs.Scanning.{part-to-end}
-use Rattle.automaton.proofs.Judging.{due-within, ranks-missing, ranks-length, ranks-limit, ranks-finals}
+use Rattle.automaton.proofs.Answered.{told}
+use Rattle.automaton.proofs.Judging.{due-within, ranks-length, ranks-limit, ranks-finals}
 use Rattle.automaton.proofs.table.judge_ranks.Statement.{statement}
 use Rattle.automaton.proofs.table.judge_ranks.Tie as tie
 
 returns : tie.Need-returns
-unfolding placeOf verdictOf
-returns c = sym (ranks-missing _ _ _ _ (sym (c .before .before .before .due .ensures) ∙ ap placeOf (c .before .cause .given .1)))
+unfolding placeOf verdictOf judgeRanks passing _>>=_
+returns c = rw (told placeOf (c .before .before .before .due .ensures) (c .before .cause .given .1))
 
 is-due : (c : tie.After-body)
     → due 2 2 (now (c .before .before .before .before .before .before .args .t)) ≡ found (c .before .before .end .given .0 .0)
 unfolding placeOf
-is-due c = sym (c .before .before .before .before .due .ensures) ∙ ap placeOf (c .before .before .end .given .1)
+is-due c = told placeOf (c .before .before .before .before .due .ensures) (c .before .before .end .given .1)
 
 returns-2 : tie.Need-returns-2
 unfolding verdictOf
-returns-2 c = let b = c .before .before in sym (ranks-length _ _ _ _ _ (is-due b) _ (b .body .ensures) (c .if1 .taken))
+returns-2 c = let b = c .before .before in sym (ranks-length _ _ _ _ (is-due b) (b .body .ensures) (c .if1 .taken))
 
 returns-3 : tie.Need-returns-3
 unfolding verdictOf
 returns-3 c =
     let b = c .before .before .before .before in
     sym
-    (ranks-limit _ _ _ _ _ (is-due b) _ (b .body .ensures) (c .before .before .if1 .left)
+    (ranks-limit _ _ _ _ (is-due b) (b .body .ensures) (c .before .before .if1 .left)
     (sym (c .before .all-ranks .ensures) ∙ not-true _ (c .if2 .taken)))
 
-within : (c : tie.Else2)
-    → let b = c .before .before .before .before in
-    b .before .before .end .given .0 .0 ≤ length (now (b .before .before .before .before .before .before .args .t))
+within : tie.Need-part-judge-finals-start
 within c = due-within 2 2 _ (is-due (c .before .before .before .before))
 
 returns-4 : tie.Need-returns-4
@@ -45,7 +42,7 @@ returns-4 c =
     let b = d .before .before .before .before in
     (rw part-to-end at (c .judge-finals .ensures))
     ∙ sym
-    (ranks-finals _ _ _ _ _ (is-due b) _ (b .body .ensures) (d .before .before .if1 .left)
+    (ranks-finals _ _ _ _ (is-due b) (b .body .ensures) (d .before .before .if1 .left)
     (sym (d .before .all-ranks .ensures) ∙ not-false _ (d .if2 .left)))
 
 pub judge-ranks-spec : {M : Type 1} → statement M

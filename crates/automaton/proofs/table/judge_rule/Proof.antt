@@ -2,14 +2,13 @@
 use borrow.Author.Needs.{needs}
 use borrow.Author.Tests.{not-true, not-false}
 use native.Mathlib.Omega.{arith}
-use Prim.Native.Nat.{ℕ, _+_, _*_, _≤_, _<_}
+use Prim.Native.Nat.{ℕ}
 use mathlib.Core.Path.{_≡_, sym, _∙_}
-use mathlib.Core.List.{List}
-use lib.ListN.{length, drop, getD}
+use lib.ListN.{drop}
 use lib.Dec.{ltb}
 use Rattle.automaton.specs.Lists.{all}
 use denote.Ref.{now}
-use Rattle.automaton.specs.Bytes.{number2, numbers}
+use Rattle.automaton.specs.Bytes.{numbers}
 use Rattle.automaton.specs.Inner.{verdictOf}
 use Rattle.automaton.proofs.Scanning.{part-to-end}
 use Rattle.automaton.proofs.Judging.{rule-short, rule-symbol, rule-arity, rule-states, rule-passes}

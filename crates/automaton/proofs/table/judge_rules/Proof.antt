@@ -1,15 +1,13 @@
 -- `automaton::table::judge_rules` meets its contract: what is left is judged as the whole is.
 use borrow.Author.Needs.{needs}
 use native.Mathlib.Omega.{arith}
-use Prim.Native.Nat.{ℕ, suc, _-_, _<_}
-use mathlib.Core.Path.{_≡_, sym, ap, _∙_}
-use mathlib.Core.List.{List}
-use lib.ListN.{length, drop}
+use mathlib.Core.Path.{_≡_, sym, _∙_}
 use denote.Ref.{now}
 use Rattle.automaton.specs.Read.{found}
 use Rattle.automaton.specs.Table.{judgeRules}
 use Rattle.automaton.specs.Inner.{passing, placeOf, verdictOf}
 use Rattle.automaton.proofs.Scanning.{part-to-end}
+use Rattle.automaton.proofs.Answered.{told}
 use Rattle.automaton.proofs.Judging.{nextRule, next-within, rules-refused, rules-next, rules-end}
 use Rattle.automaton.proofs.table.judge_rules.Statement.{statement}
 use Rattle.automaton.proofs.table.judge_rules.Tie as tie
@@ -27,14 +25,14 @@ returns c =
     sym
     (l .inv
     ∙ rules-refused _ _ _ (l .left) (c .before .before .before .before .loop-test .taken)
-    (sym (c .before .before .before .next-rule .ensures) ∙ ap placeOf (c .before .cause .given .1)))
+    (told placeOf (c .before .before .before .next-rule .ensures) (c .before .cause .given .1)))
 
 next-is : (c : tie.After-known-told2 Inv-loop μ-loop)
     → let a = c .before .before .before .before .before .before .before .before .args in
     let l = c .before .before .before .before .before .loop in
     nextRule (a .n) (now (a .ranks)) (now (l .rest)) ≡ found (c .before .end .given .0 .0)
 unfolding placeOf
-next-is c = sym (c .before .before .before .next-rule .ensures) ∙ ap placeOf (c .before .end .given .1)
+next-is c = told placeOf (c .before .before .before .next-rule .ensures) (c .before .end .given .1)
 
 part-rest-start : tie.Need-part-rest-start Inv-loop μ-loop
 part-rest-start c = next-within _ _ _ (next-is c)

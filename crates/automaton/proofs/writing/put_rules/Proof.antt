@@ -48,7 +48,7 @@ loop-again c =
     let call = c .before .before .put-rule in (
       search needs,
       search needs,
-      omega (arith, length-step run (turn .loop .i), call .ensures .0),
+      omega (arith, length-step run (turn .loop .i)),
       over-step run _ _ (turn .loop .i) (args .k) (omega arith) (omega arith) _ _ _
           (turn .loop .inv .3) (call .ensures .1) (turn .loop .inv .2),
     )

@@ -43,7 +43,7 @@ loop-again c =
     let call = c .before .before .put-state in (
       search needs,
       search needs,
-      omega (arith, length-step run (turn .loop .q), call .ensures .0),
+      omega (arith, length-step run (turn .loop .q)),
       over-step run _ _ (turn .loop .q) (args .n) (omega arith) (omega arith) _ _ _
           (turn .loop .inv .3) (call .ensures .1) (turn .loop .inv .2),
     )
