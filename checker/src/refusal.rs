@@ -15,6 +15,16 @@ pub enum Refusal {
     FinalsOutOfOrder,
     /// There are more or fewer rules than the header says.
     WrongRuleCount,
+    /// The bytes are not one whole record of a tree, or its body is odd.
+    NotATree,
+    /// A symbol in a tree is not one of the automaton's.
+    UnknownSymbol,
+    /// A node has fewer trees before it than its rank, or the end has not one.
+    Unbalanced,
+    /// A tree has too many nodes, or too many trees wait after a node.
+    TreeAboveLimit,
+    /// A state in a query is not one of the automaton's.
+    UnknownState,
     /// The output is shorter than the result.
     ShortOutput,
 }
@@ -30,6 +40,11 @@ impl Refusal {
             Self::OutOfRange => 5,
             Self::FinalsOutOfOrder => 6,
             Self::WrongRuleCount => 7,
+            Self::NotATree => 8,
+            Self::UnknownSymbol => 9,
+            Self::Unbalanced => 10,
+            Self::TreeAboveLimit => 11,
+            Self::UnknownState => 12,
             Self::ShortOutput => 13,
         }
     }

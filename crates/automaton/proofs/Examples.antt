@@ -15,7 +15,7 @@ abbrev pub rule : ℕ → ℕ → List ℕ → Rule
 rule f q qs = record { symbol = f; target = q; children = qs }
 
 -- a → 0, a → 1, a → 2, b → 2, f(0,2) → 3, f(1,2) → 3, f(2,2) → 3, f(4,0) → 4
-abbrev T : Automaton
+abbrev pub T : Automaton
 T = record {
   states = 5;
   ranks = 0 ∷ 0 ∷ 2 ∷ [];

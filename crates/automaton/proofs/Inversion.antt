@@ -23,7 +23,7 @@ use Rattle.automaton.specs.Inner.{restOf}
 pub refused≢found : {A : Type 0} {cause : ℕ} {a : A} → refused cause ≡ found a → ⊥
 refused≢found h = let z : _≡_ {A = ℕ} 0 1 = cc in omega arith
 
-bind-found :
+pub bind-found :
     {A B : Type 0} (x : Read A) (f : A → Read B) {y : B} → x >>= f ≡ found y → (a : A) × (x ≡ found a) × (f a ≡ found y)
 unfolding _>>=_
 bind-found (found a) f h = (a, refl, h)
@@ -41,7 +41,7 @@ check-found true cause h = refl
 check-found false cause h = absurd (refused≢found h)
 
 -- A check and what follows it.
-checked :
+pub checked :
     {B : Type 0} (t : Bool) (cause : ℕ) (y : Read B) {z : B} → check t cause >> y ≡ found z → (t ≡ true) × (y ≡ found z)
 checked t cause y h = let s = then-found (check t cause) y h in (check-found t cause (s .1), s .2)
 

@@ -27,7 +27,7 @@ below-four P a b c d (suc (suc (suc (suc i)))) h = absurd (omega arith)
 
 -- Four words.
 
-getD-words : (f : ℕ → ℕ) (i : ℕ) → i < 4 → getD (words f) i 0 ≡ f i
+pub getD-words : (f : ℕ → ℕ) (i : ℕ) → i < 4 → getD (words f) i 0 ≡ f i
 unfolding words
 getD-words f = below-four (λ (i : ℕ). getD (words f) i 0 ≡ f i) refl refl refl refl
 
@@ -35,7 +35,7 @@ length-words : (f : ℕ → ℕ) → length (words f) ≡ 4
 unfolding words
 length-words f = refl
 
-words-getD : (ws : List ℕ) → length ws ≡ 4 → ws ≡ words (λ (i : ℕ). getD ws i 0)
+pub words-getD : (ws : List ℕ) → length ws ≡ 4 → ws ≡ words (λ (i : ℕ). getD ws i 0)
 words-getD ws e =
     ext-getD 0 ws (words (λ (i : ℕ). getD ws i 0)) (e ∙ sym (length-words _))
     (λ i h. sym (getD-words (λ (j : ℕ). getD ws j 0) i (omega arith)))
@@ -51,7 +51,7 @@ one-bit j h = shl-exact 1 j 64 (omega arith) (omega arith) ∙ one-mul (2 ^ j)
 
 -- Bits.
 
-unfoldable bit : ℕ → ℕ → Bool
+unfoldable pub bit : ℕ → ℕ → Bool
 bit w k = eqb (w / 2 ^ k % 2) 1
 
 last-bit : (w : ℕ) (t : Bool) → eqb ((w * 2 + cond t 1 0) % 2) 1 ≡ t
@@ -98,7 +98,7 @@ bit-zero : (k : ℕ) → bit 0 k ≡ false
 unfolding bit
 bit-zero k = ap (λ (w : ℕ). eqb (w % 2) 1) (zero-div (2 ^ k))
 
-bit-suc : (w k : ℕ) → bit w (suc k) ≡ bit (w / 2) k
+pub bit-suc : (w k : ℕ) → bit w (suc k) ≡ bit (w / 2) k
 unfolding bit
 bit-suc w k = ap (λ (v : ℕ). eqb (v % 2) 1) (ap (λ (j : ℕ). w / 2 ^ j) (sym (one-add k)) ∙ sym (shr-shr w 1 k))
 
@@ -112,7 +112,7 @@ bit-power (suc j) (suc k) =
 
 -- Members.
 
-same-test : (a b c d : ℕ) → (a ≡ b → c ≡ d) → (c ≡ d → a ≡ b) → eqb a b ≡ eqb c d
+pub same-test : (a b c d : ℕ) → (a ≡ b → c ≡ d) → (c ≡ d → a ≡ b) → eqb a b ≡ eqb c d
 same-test a b c d f g = go (eqb c d) refl
   where
     go : (t : Bool) → eqb c d ≡ t → eqb a b ≡ t
@@ -206,12 +206,12 @@ rising-tail : {a : ℕ} {qs : List ℕ} → Rising (a ∷ qs) → Rising qs
 rising-tail single = empty
 rising-tail (step h r) = r
 
-elem-above : (r : ℕ) {qs : List ℕ} → All (λ (q : ℕ). r < q) qs → elem r qs ≡ false
+pub elem-above : (r : ℕ) {qs : List ℕ} → All (λ (q : ℕ). r < q) qs → elem r qs ≡ false
 unfolding elem
 elem-above r none = refl
 elem-above r (also {x = q} h hs) = rw (ne-eqb r q (omega arith)) (elem-above r hs)
 
-keep-same : (f g : ℕ → Bool) (i n : ℕ) → ((r : ℕ) → i ≤ r → r < i + n → f r ≡ g r)
+pub keep-same : (f g : ℕ → Bool) (i n : ℕ) → ((r : ℕ) → i ≤ r → r < i + n → f r ≡ g r)
     → keep f (from i n) ≡ keep g (from i n)
 unfolding keep from
 keep-same f g i zero e = refl

@@ -135,7 +135,7 @@ over-record out at kind size now body next e f sized fits =
 
 -- Ranges and states.
 
-from-step : (i n : ℕ) → from i (n + 1) ≡ from i n ++ ((i + n) ∷ [])
+pub from-step : (i n : ℕ) → from i (n + 1) ≡ from i n ++ ((i + n) ∷ [])
 unfolding from
 from-step i n = rw add-one (go i n)
   where
@@ -143,12 +143,12 @@ from-step i n = rw add-one (go i n)
     go i zero = ap (λ (j : ℕ). j ∷ []) (omega arith)
     go i (suc n) = ap₂ _∷_ refl (go (suc i) n ∙ ap (λ (j : ℕ). from (suc i) n ++ (j ∷ [])) (omega arith))
 
-length-from : (i n : ℕ) → length (from i n) ≡ n
+pub length-from : (i n : ℕ) → length (from i n) ≡ n
 unfolding from
 length-from i zero = refl
 length-from i (suc n) = ap suc (length-from (suc i) n)
 
-keep-append : (test : ℕ → Bool) (us vs : List ℕ) → keep test (us ++ vs) ≡ keep test us ++ keep test vs
+pub keep-append : (test : ℕ → Bool) (us vs : List ℕ) → keep test (us ++ vs) ≡ keep test us ++ keep test vs
 unfolding keep
 keep-append test [] vs = refl
 keep-append test (u ∷ us) vs = go (test u) (keep-append test us vs)
@@ -259,7 +259,7 @@ pub room-short : (bytes out : List ℕ) → length out < length bytes
 unfolding written writtenOver
 room-short bytes out h = rw (lt-leb (length bytes) (length out) h) (refl, refl)
 
-all-from : (P : Rule → Type 0) (f : ℕ → Rule) (i n : ℕ) → All P (map f (from i n)) → (j : ℕ) → j < n → P (f (i + j))
+pub all-from : (P : Rule → Type 0) (f : ℕ → Rule) (i n : ℕ) → All P (map f (from i n)) → (j : ℕ) → j < n → P (f (i + j))
 unfolding from
 all-from P f i zero ps j h = absurd (omega arith)
 all-from P f i (suc n) (also p ps) zero h = rw add-zero p

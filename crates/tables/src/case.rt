@@ -4,42 +4,21 @@ ghost use Prim.Native.Nat.{_+_, _≤_, _<_};
 ghost use lib.ListN.{length};
 ghost use Rattle.automaton.specs.Automaton.{WellFormed};
 ghost use Rattle.automaton.specs.Decoded.{automatonIn};
-use crate::print::end;
-use crate::print::number;
-use crate::print::word;
 use automaton::Judged;
 use automaton::Opened;
 use automaton::Size;
 use automaton::StateSet;
 use automaton::Written;
-
-// The modulus of the checksum.
-const MODULUS: u64 = 4294967291;
+use cases::add;
+use cases::add_all;
+use cases::end_line as end;
+use cases::write_number as number;
+use cases::write_word as word;
 
 pub fn report(t: &[u8]) {
     records(t);
     table(t);
     decode(t);
-}
-
-// The checksum `sum` with a byte more.
-fn add(sum: u64, b: u8) -> u64
-    requires { ⌜ sum < 4294967291 ⌝ }
-    ensures { λ r. ⌜ r < 4294967291 ⌝ }
-{
-    (sum * 257 + b as u64 + 1) % MODULUS
-}
-
-// The checksum `sum` with the bytes of `b` more.
-fn add_all(sum: u64, b: &[u8]) -> u64
-    requires { ⌜ sum < 4294967291 ⌝ }
-    ensures { λ r. ⌜ r < 4294967291 ⌝ }
-{
-    let mut s = sum;
-    for i in 0..b.len() {
-        s = add(s, b[i]);
-    }
-    s
 }
 
 // Opens records one behind the other: how many there are, a checksum of their kinds and bodies, and what ends them.

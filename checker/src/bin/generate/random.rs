@@ -1,6 +1,6 @@
-//! Random tables and byte strings, the same at each run.
+//! Random tables, trees and byte strings, the same at each run.
 
-use crate::layout::{finals, header, ranks, record, rule};
+use crate::layout::{finals, header, ranks, record, rule, tree};
 
 /// The xorshift generator of 64 bits with shifts 13, 7, 17.
 pub struct Random(u64);
@@ -19,7 +19,7 @@ impl Random {
     }
 
     /// A number below `bound`.
-    fn below(&mut self, bound: usize) -> usize {
+    pub fn below(&mut self, bound: usize) -> usize {
         (self.next() >> 16) as usize % bound
     }
 
@@ -39,17 +39,126 @@ impl Random {
         let m = self.below(5);
         let k = if n == 0 || m == 0 { 0 } else { self.below(9) };
         let arity: Vec<u8> = (0..m).map(|_| self.below(4) as u8).collect();
-        let accepting: Vec<u16> = (0..n as u16).filter(|_| self.below(2) == 0).collect();
-        let mut bytes = header(n as u16, m as u16, k as u16);
+        self.table_of(n, &arity, k)
+    }
+
+    /// A table of 2 to 5 states in which a tree belongs to about half of them,
+    /// and before it the ranks of its symbols.
+    pub fn dense_table(&mut self) -> (Vec<u8>, Vec<u8>) {
+        let n = 2 + self.below(4);
+        let m = 2 + self.below(3);
+        let mut arity: Vec<u8> = (0..m).map(|_| self.below(4) as u8).collect();
+        arity[self.below(m)] = 0;
+        let mut accepting: Vec<u16> = (0..n as u16).collect();
+        self.shuffle(&mut accepting);
+        accepting.truncate(1 + self.below(n / 2));
+        accepting.sort_unstable();
+        let mut rules = Vec::new();
+        for (symbol, &rank) in arity.iter().enumerate() {
+            for _ in 0..((5 * n) << rank).div_ceil(8) {
+                rules.push(self.rule(symbol, rank, n));
+            }
+        }
+        self.shuffle(&mut rules);
+        let mut bytes = header(n as u16, m as u16, rules.len() as u16);
         bytes.extend(ranks(&arity));
         bytes.extend(finals(&accepting));
+        bytes.extend(rules.concat());
+        (arity, bytes)
+    }
+
+    /// A well-formed table of these states and rules, and 2 or 3 symbols.
+    pub fn sparse_table(&mut self, n: usize, k: usize) -> Vec<u8> {
+        let m = 2 + self.below(2);
+        let arity: Vec<u8> = (0..m).map(|_| self.below(4) as u8).collect();
+        self.table_of(n, &arity, k)
+    }
+
+    fn table_of(&mut self, n: usize, arity: &[u8], k: usize) -> Vec<u8> {
+        let accepting: Vec<u16> = (0..n as u16).filter(|_| self.below(2) == 0).collect();
+        let mut bytes = header(n as u16, arity.len() as u16, k as u16);
+        bytes.extend(ranks(arity));
+        bytes.extend(finals(&accepting));
         for _ in 0..k {
-            let symbol = self.below(m);
-            let target = self.below(n) as u16;
-            let children: Vec<u16> = (0..arity[symbol]).map(|_| self.below(n) as u16).collect();
-            bytes.extend(rule(symbol as u16, target, &children));
+            let symbol = self.below(arity.len());
+            bytes.extend(self.rule(symbol, arity[symbol], n));
         }
         bytes
+    }
+
+    fn rule(&mut self, symbol: usize, rank: u8, states: usize) -> Vec<u8> {
+        let target = self.below(states) as u16;
+        let children: Vec<u16> = (0..rank).map(|_| self.below(states) as u16).collect();
+        rule(symbol as u16, target, &children)
+    }
+
+    fn shuffle<T>(&mut self, items: &mut [T]) {
+        for last in (1..items.len()).rev() {
+            items.swap(last, self.below(last + 1));
+        }
+    }
+
+    /// The symbols of a tree of height up to 4, in postfix order. One rank
+    /// must be 0.
+    pub fn symbols(&mut self, arity: &[u8]) -> Vec<u16> {
+        let mut symbols = Vec::new();
+        let height = 2 + self.below(3);
+        self.grow(arity, height, &mut symbols);
+        symbols
+    }
+
+    fn grow(&mut self, arity: &[u8], height: usize, symbols: &mut Vec<u16>) {
+        let leaf = height == 0 || arity.iter().all(|&rank| rank == 0);
+        let symbol = loop {
+            let symbol = self.below(arity.len());
+            if (arity[symbol] == 0) == leaf {
+                break symbol;
+            }
+        };
+        for _ in 0..arity[symbol] {
+            let height = if self.below(6) == 0 { 0 } else { height - 1 };
+            self.grow(arity, height, symbols);
+        }
+        symbols.push(symbol as u16);
+    }
+
+    /// A random tree with one or two changes to its nodes, or one to three to
+    /// its bytes.
+    pub fn spoilt_tree(&mut self, arity: &[u8]) -> Vec<u8> {
+        let mut symbols = self.symbols(arity);
+        if self.below(3) > 0 {
+            for _ in 0..=self.below(2) {
+                self.spoil_nodes(arity.len(), &mut symbols);
+            }
+            return tree(&symbols);
+        }
+        let mut bytes = tree(&symbols);
+        for _ in 0..=self.below(3) {
+            self.spoil(&mut bytes);
+        }
+        bytes
+    }
+
+    fn spoil_nodes(&mut self, m: usize, symbols: &mut Vec<u16>) {
+        if symbols.is_empty() {
+            return;
+        }
+        let place = self.below(symbols.len());
+        let symbol = self.below(m + 1) as u16;
+        match self.below(4) {
+            0 => symbols[place] = symbol,
+            1 => symbols.insert(place, symbol),
+            2 => drop(symbols.remove(place)),
+            _ => {
+                let other = self.below(symbols.len());
+                symbols.swap(place, other);
+            }
+        }
+    }
+
+    /// Three counts.
+    pub fn counts(&mut self) -> [u32; 3] {
+        std::array::from_fn(|_| self.next() as u32)
     }
 
     /// A random table with one to three changes.

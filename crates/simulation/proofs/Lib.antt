@@ -1,0 +1,16 @@
+pub mod Search
+pub mod Runs
+pub mod Language
+pub mod Refinement
+pub mod Maximality
+pub mod Postfix
+pub mod Preorder
+pub mod Pairs
+pub mod Chains
+pub mod Ranged
+pub mod Targets
+pub mod Stacks
+pub mod Evaluating
+pub mod Accepting
+pub mod Theorems
+pub mod Examples

@@ -1,0 +1,102 @@
+-- A pair that is not in the relation has a rule without a match; and the number of pairs is counted row by row.
+use Prim.Native.Nat.{ℕ, zero, suc, _+_, _*_, _≤_, _<_}
+use native.Mathlib.Omega.{arith}
+use mathlib.Core.Path.{_≡_, refl, sym, ap, _∙_}
+use mathlib.Core.Logic.{_⊎_, inl, inr}
+use mathlib.Core.List.{List, [], _∷_, _++_, map, List·Memᴰ, List·Memᴰ·head, List·Memᴰ·tail, Memᴰ·cast}
+use mathlib.Core.Bool.{Bool, true, false, cond, _&&_}
+use lib.ListN.{length, length-append}
+use Rattle.automaton.specs.Lists.{keep}
+use Rattle.automaton.specs.Automaton.{Rule}
+use Rattle.simulation.specs.Simulation.{Simulates, Matched, Relation, related, holds, keepPairs, refine, allPairs, relationAt, rounds, relation}
+use Rattle.simulation.proofs.Refinement.{Within, member-related, refine-related, holds-matched}
+use Rattle.simulation.proofs.Maximality.{keep-append, matched-map, relation-simulates, relation-largest, relation-states}
+
+module _ (rules : List Rule) (states : List ℕ) where
+  -- A pair all of whose rules are matched is in the relation: with it the relation would still be a simulation.
+  With : ℕ → ℕ → ℕ → ℕ → Type 0
+  With q r p s = Within (relation rules states) p s ⊎ ((p ≡ q) × (s ≡ r))
+
+  pub holds-related : (q r : ℕ) → List·Memᴰ q states → List·Memᴰ r states → holds rules (relation rules states) (q, r) ≡ true
+      → Within (relation rules states) q r
+  unfolding With Simulates
+  holds-related q r mq mr h =
+      let R = relation rules states in
+      relation-largest rules states (With q r)
+      (λ p s d u m e. answer p s d u m e)
+      (λ p s d. inside p s d)
+      q r (inr (refl, refl))
+    where
+      answer : (p s : ℕ) → With q r p s → (u : Rule) → List·Memᴰ u rules → u .target ≡ p → Matched (With q r) rules s u
+      answer p s (inl w) u m e = matched-map (λ a b x. inl x) (relation-simulates rules states p s w u m e)
+      answer p s (inr d) u m e =
+          rw (d .1) (matched-map (λ a b x. inl x) (holds-matched rules (relation rules states) q r h u m (e ∙ d .0)))
+
+      inside : (p s : ℕ) → With q r p s → List·Memᴰ p states × List·Memᴰ s states
+      inside p s (inl w) = relation-states rules states p s w
+      inside p s (inr e) = (Memᴰ·cast (e .0) mq, Memᴰ·cast (e .1) mr)
+
+-- Pairs kept by two tests one after the other, by tests that agree, and by a test that all pass.
+keep-keep : (f g : ℕ × ℕ → Bool) (R : Relation) → keepPairs g (keepPairs f R) ≡ keepPairs (λ (p : ℕ × ℕ). f p && g p) R
+unfolding keepPairs
+keep-keep f g [] = refl
+keep-keep f g (p ∷ R) = go (f p) (keep-keep f g R)
+  where
+    go : (t : Bool) → keepPairs g (keepPairs f R) ≡ keepPairs (λ (p : ℕ × ℕ). f p && g p) R
+        → keepPairs g (cond t (p ∷ keepPairs f R) (keepPairs f R))
+        ≡ cond (t && g p) (p ∷ keepPairs (λ (p : ℕ × ℕ). f p && g p) R) (keepPairs (λ (p : ℕ × ℕ). f p && g p) R)
+    go true e = ap (λ (l : Relation). cond (g p) (p ∷ l) l) e
+    go false e = e
+
+keep-agree : (f g : ℕ × ℕ → Bool) → ((p : ℕ × ℕ) → f p ≡ g p) → (R : Relation) → keepPairs f R ≡ keepPairs g R
+unfolding keepPairs
+keep-agree f g e [] = refl
+keep-agree f g e (p ∷ R) = rw (e p, keep-agree f g e R)
+
+keep-passing : (f : ℕ × ℕ → Bool) (R : Relation) → ((p : ℕ × ℕ) → List·Memᴰ p R → f p ≡ true) → keepPairs f R ≡ R
+unfolding keepPairs
+keep-passing f [] h = refl
+keep-passing f (p ∷ R) h =
+    rw (h p (List·Memᴰ·head refl), keep-passing f R (λ q m. h q (List·Memᴰ·tail m)))
+
+-- The pairs that pass a test, counted row by row.
+unfoldable pub pairsIn : (ℕ → ℕ → Bool) → List ℕ → List ℕ → ℕ
+pairsIn f [] rs = 0
+pairsIn f (q ∷ qs) rs = length (keep (f q) rs) + pairsIn f qs rs
+
+row-length : (f : ℕ × ℕ → Bool) (q : ℕ) (rs : List ℕ)
+    → length (keepPairs f (map (λ (r : ℕ). (q, r)) rs)) ≡ length (keep (λ (r : ℕ). f (q, r)) rs)
+unfolding keepPairs keep
+row-length f q [] = refl
+row-length f q (r ∷ rs) = go (f (q, r)) (row-length f q rs)
+  where
+    go : (t : Bool) → length (keepPairs f (map (λ (r : ℕ). (q, r)) rs)) ≡ length (keep (λ (r : ℕ). f (q, r)) rs)
+        → length (cond t ((q, r) ∷ keepPairs f (map (λ (r : ℕ). (q, r)) rs)) (keepPairs f (map (λ (r : ℕ). (q, r)) rs)))
+        ≡ length (cond t (r ∷ keep (λ (r : ℕ). f (q, r)) rs) (keep (λ (r : ℕ). f (q, r)) rs))
+    go true e = ap suc e
+    go false e = e
+
+all-length : (f : ℕ × ℕ → Bool) (qs rs : List ℕ) → length (keepPairs f (allPairs qs rs)) ≡ pairsIn (λ (q r : ℕ). f (q, r)) qs rs
+unfolding allPairs keepPairs pairsIn
+all-length f [] rs = refl
+all-length f (q ∷ qs) rs =
+    rw (keep-append f (map (λ (r : ℕ). (q, r)) rs) (allPairs qs rs), length-append, row-length f q rs, all-length f qs rs)
+
+module _ (rules : List Rule) (states : List ℕ) where
+  kept-round : (j : ℕ) → relationAt rules states j
+      ≡ keepPairs (λ (p : ℕ × ℕ). related (relationAt rules states j) (p .0) (p .1)) (allPairs states states)
+  unfolding relationAt refine
+  kept-round zero = sym (keep-passing _ (allPairs states states) (λ p m. member-related m))
+  kept-round (suc j) =
+      let R = relationAt rules states j in
+      let before : ℕ × ℕ → Bool = λ (p : ℕ × ℕ). related R (p .0) (p .1) in
+      ap (keepPairs (holds rules R)) (kept-round j)
+      ∙ keep-keep before (holds rules R) (allPairs states states)
+      ∙ keep-agree (λ (p : ℕ × ℕ). before p && holds rules R p) _
+      (λ p. sym (refine-related rules R (p .0) (p .1))) (allPairs states states)
+
+  pub relation-length : length (relation rules states) ≡ pairsIn (related (relation rules states)) states states
+  unfolding relation
+  relation-length =
+      ap length (kept-round (rounds rules states))
+      ∙ all-length (λ (p : ℕ × ℕ). related (relationAt rules states (rounds rules states)) (p .0) (p .1)) states states

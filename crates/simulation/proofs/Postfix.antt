@@ -1,0 +1,289 @@
+-- A tree over the symbols, in postfix order, is read back as that tree, unless it breaks a limit; and what is read spells the bytes.
+use Prim.Native.Nat.{ℕ, zero, suc, _+_, _*_, _%_, _≤_, _<_}
+use native.Mathlib.Omega.{arith}
+use native.Mathlib.Decide.{decLe}
+use mathlib.Core.Path.{_≡_, refl, sym, ap, ap₂, _∙_}
+use mathlib.Core.Logic.{_⊎_, inl, inr}
+use mathlib.Core.List.{List, [], _∷_, _++_, reverse, reverseAux, reverseAux-eq, reverse-reverse, reverse-cons, append-assoc, append-nil}
+use mathlib.Core.Bool.{Bool, true, false, false≢true}
+use lib.ListN.{length, take, drop, getD, length-append, length-reverse, take-append-drop}
+use lib.Seq.{take-at, drop-at, drop-length, length-take-le}
+use lib.Dec.{leb, ltb, eqb}
+use borrow.Author.Tests.{lt-ltb, le-leb, lt-leb, ltb-true, leb-true, eqb-true, eq-eqb}
+use Rattle.automaton.specs.Read.{Read, found, refused, _>>=_, _>>_, check}
+use Rattle.automaton.specs.Lists.{All, none, also}
+use Rattle.automaton.specs.Bytes.{numbers, fields}
+use Rattle.automaton.specs.Record.{Opening, whole, nothing, opened, bodyOf, encodeRecord}
+use Rattle.automaton.specs.Record as records
+use Rattle.automaton.proofs.Elements.{all-first, all-map}
+use Rattle.automaton.proofs.Fields.{Bytes, fields-numbers, numbers-fields, length-fields}
+use Rattle.automaton.proofs.Records.{record-opens, record-body, length-record, record-encoded, bytes-body}
+use Rattle.automaton.proofs.Inversion.{refused≢found, checked, bind-found}
+use Rattle.simulation.proofs.Search.{and-true-out}
+use Rattle.simulation.specs.Tree.{Tree, Trees, node, nil, cons, width, Over, AllOver}
+use Rattle.simulation.specs.Postfix.{treesIn, push, pushAll, single, isTreeRecord, judgeTree, postfix, postfixes, encodeTree}
+
+unfoldable pub treeList : Trees → List Tree
+treeList nil = []
+treeList (cons t ts) = t ∷ treeList ts
+
+length-treeList : (ts : Trees) → length (treeList ts) ≡ width ts
+unfolding treeList width
+length-treeList nil = refl
+length-treeList (cons t ts) = ap suc (length-treeList ts)
+
+treesIn-treeList : (ts : Trees) → treesIn (treeList ts) ≡ ts
+unfolding treeList treesIn
+treesIn-treeList nil = refl
+treesIn-treeList (cons t ts) = ap (cons t) (treesIn-treeList ts)
+
+-- Reading comes to the same, or ends with the limit.
+abbrev pub Same : {A : Type 0} → Read A → Read A → Type 0
+Same x y = (x ≡ y) ⊎ (x ≡ refused 11)
+
+module _ (ranks : List ℕ) where
+  -- A node takes the trees of its children off the stack.
+  module _ (f : ℕ) (ts : Trees) (stack : List Tree) (w : width ts ≡ getD ranks f 0) where
+    on-stack : List Tree
+    on-stack = reverseAux (treeList ts) stack
+
+    rank-length : length (reverse (treeList ts)) ≡ getD ranks f 0
+    rank-length = length-reverse (treeList ts) ∙ length-treeList ts ∙ w
+
+    taken : take (getD ranks f 0) on-stack ≡ reverse (treeList ts)
+    unfolding on-stack
+    taken = rw (reverseAux-eq (treeList ts) stack) (take-at (reverse (treeList ts)) stack (getD ranks f 0) rank-length)
+
+    dropped : drop (getD ranks f 0) on-stack ≡ stack
+    unfolding on-stack
+    dropped = rw (reverseAux-eq (treeList ts) stack) (drop-at (reverse (treeList ts)) stack (getD ranks f 0) rank-length)
+
+    enough : getD ranks f 0 ≤ length on-stack
+    unfolding on-stack
+    enough = rw (reverseAux-eq (treeList ts) stack, length-append) (omega (arith, rank-length))
+
+    children : treesIn (reverse (reverse (treeList ts))) ≡ ts
+    children = ap treesIn (reverse-reverse (treeList ts)) ∙ treesIn-treeList ts
+
+    push-node : f < length ranks → Same (push ranks on-stack f) (found (node f ts ∷ stack))
+    unfolding push check _>>_
+    push-node h =
+        elim (decLe (1 + length stack) 1024) [
+          | yes l ↦
+              inl
+              (rw (lt-ltb f (length ranks) h, le-leb (getD ranks f 0) (length on-stack) enough, dropped, taken, le-leb (1 + length stack) 1024 l, children))
+          | no g ↦
+              inr
+              (rw (lt-ltb f (length ranks) h, le-leb (getD ranks f 0) (length on-stack) enough, dropped, lt-leb (1 + length stack) 1024 (omega arith)))
+        ]
+
+  same-then : {A B : Type 0} (x : Read A) (y : A) (f : A → Read B) → Same x (found y) → Same (x >>= f) (f y)
+  unfolding _>>=_
+  same-then x y f (inl e) = inl (rw e)
+  same-then x y f (inr e) = inr (rw e)
+
+  same-trans : {A : Type 0} {x y z : Read A} → Same x y → Same y z → Same x z
+  same-trans (inl e) (inl g) = inl (e ∙ g)
+  same-trans (inl e) (inr g) = inr (e ∙ g)
+  same-trans (inr e) g = inr e
+
+  mutual
+    unfolding postfix pushAll Over treeList on-stack
+
+    pub read-back : (t : Tree) (stack : List Tree) (fs : List ℕ) → Over ranks t
+        → Same (pushAll ranks stack (postfix t ++ fs)) (pushAll ranks (t ∷ stack) fs)
+    read-back (node f ts) stack fs o =
+        same-trans (rw append-assoc (read-all ts stack (f ∷ fs) (o .2)))
+        (same-then (push ranks (reverseAux (treeList ts) stack) f) (node f ts ∷ stack) (λ (next : List Tree). pushAll ranks next fs)
+        (push-node f ts stack (o .1) (o .0)))
+
+    read-all : (ts : Trees) (stack : List Tree) (fs : List ℕ) → AllOver ranks ts
+        → Same (pushAll ranks stack (postfixes ts ++ fs)) (pushAll ranks (reverseAux (treeList ts) stack) fs)
+    read-all nil stack fs o = inl refl
+    read-all (cons t ts) stack fs o =
+        same-trans (rw append-assoc (read-back t stack (postfixes ts ++ fs) (o .0))) (read-all ts (t ∷ stack) fs (o .1))
+
+  -- A tree over the symbols is read back as that tree, or breaks a limit.
+  pub tree-read : (t : Tree) → Over ranks t → Same (pushAll ranks [] (postfix t)) (found (t ∷ []))
+  unfolding pushAll
+  tree-read t o = rw append-nil at (read-back t [] [] o)
+
+-- The symbols that a stack of trees spells, from its bottom up.
+unfoldable spelled : List Tree → List ℕ
+spelled [] = []
+spelled (t ∷ stack) = spelled stack ++ postfix t
+
+postfixes-snoc : (ts : List Tree) (t : Tree) → postfixes (treesIn (ts ++ (t ∷ []))) ≡ postfixes (treesIn ts) ++ postfix t
+unfolding treesIn postfix
+postfixes-snoc [] t = append-nil (postfix t)
+postfixes-snoc (s ∷ ts) t = rw (postfixes-snoc ts t, append-assoc)
+
+spelled-trees : (ts stack : List Tree) → spelled (ts ++ stack) ≡ spelled stack ++ postfixes (treesIn (reverse ts))
+unfolding spelled treesIn postfix
+spelled-trees [] stack = sym (append-nil (spelled stack))
+spelled-trees (t ∷ ts) stack =
+    rw (spelled-trees ts stack, append-assoc, ← postfixes-snoc (reverse ts) t, ← reverse-cons t ts)
+
+-- One node more.
+record Pushed (ranks : List ℕ) (stack : List Tree) (f : ℕ) (next : List Tree) : Type 0 where
+  symbol : f < length ranks
+  rank : getD ranks f 0 ≤ length stack
+  stacked : node f (treesIn (reverse (take (getD ranks f 0) stack))) ∷ drop (getD ranks f 0) stack ≡ next
+
+pushed : (ranks : List ℕ) (stack : List Tree) (f : ℕ) {next : List Tree} → push ranks stack f ≡ found next → Pushed ranks stack f next
+unfolding push
+pushed ranks stack f h =
+    let a = checked (ltb f (length ranks)) 9 _ h in
+    let b = checked (leb (getD ranks f 0) (length stack)) 10 _ (a .1) in
+    let c = checked (leb (1 + length (drop (getD ranks f 0) stack)) 1024) 11 _ (b .1) in
+    record { symbol = ltb-true _ _ (a .0); rank = leb-true _ _ (b .0); stacked = cc }
+
+push-spells : (ranks : List ℕ) (stack : List Tree) (f : ℕ) {next : List Tree} → Pushed ranks stack f next
+    → spelled next ≡ spelled stack ++ (f ∷ [])
+unfolding spelled postfix
+push-spells ranks stack f p =
+    let r = getD ranks f 0 in
+    rw (← (p .stacked), ← append-assoc, ← spelled-trees (take r stack) (drop r stack), take-append-drop r stack)
+
+pushAll-spells : (ranks : List ℕ) (stack : List Tree) (fs : List ℕ) (last : List Tree) → pushAll ranks stack fs ≡ found last
+    → spelled last ≡ spelled stack ++ fs
+unfolding pushAll
+pushAll-spells ranks stack [] last h = let e : stack ≡ last = cc in rw (← e) (sym (append-nil (spelled stack)))
+pushAll-spells ranks stack (f ∷ fs) last h =
+    let n = bind-found (push ranks stack f) (λ (next : List Tree). pushAll ranks next fs) h in
+    pushAll-spells ranks (n .0) fs last (n .2)
+    ∙ ap (λ (l : List ℕ). l ++ fs) (push-spells ranks stack f (pushed ranks stack f (n .1)))
+    ∙ append-assoc (spelled stack) (f ∷ []) fs
+
+-- The trees on the stack are trees over the symbols.
+width-trees : (ts : List Tree) → width (treesIn ts) ≡ length ts
+unfolding treesIn width
+width-trees [] = refl
+width-trees (t ∷ ts) = ap suc (width-trees ts)
+
+over-trees : (ranks : List ℕ) (ts : List Tree) → All (Over ranks) ts → AllOver ranks (treesIn ts)
+unfolding treesIn Over
+over-trees ranks [] none = tt
+over-trees ranks (t ∷ ts) (also o os) = (o, over-trees ranks ts os)
+
+all-take : {P : Tree → Type 0} (n : ℕ) (ts : List Tree) → All P ts → All P (take n ts)
+all-take zero ts h = none
+all-take (suc n) [] none = none
+all-take (suc n) (t ∷ ts) (also p ps) = also p (all-take n ts ps)
+
+all-drop : {P : Tree → Type 0} (n : ℕ) (ts : List Tree) → All P ts → All P (drop n ts)
+all-drop zero ts h = h
+all-drop (suc n) [] none = none
+all-drop (suc n) (t ∷ ts) (also p ps) = all-drop n ts ps
+
+all-reverse : {P : Tree → Type 0} (ts rs : List Tree) → All P ts → All P rs → All P (reverseAux ts rs)
+all-reverse [] rs none h = h
+all-reverse (t ∷ ts) rs (also p ps) h = all-reverse ts (t ∷ rs) ps (also p h)
+
+push-over : (ranks : List ℕ) (stack : List Tree) (f : ℕ) {next : List Tree} → Pushed ranks stack f next → All (Over ranks) stack
+    → All (Over ranks) next
+unfolding Over
+push-over ranks stack f p h =
+    let r = getD ranks f 0 in
+    let ts = take r stack in
+    let w : width (treesIn (reverse ts)) ≡ r =
+    width-trees (reverse ts) ∙ length-reverse ts ∙ length-take-le r stack (p .rank) in
+    rw (← (p .stacked))
+    (also {x = node f (treesIn (reverse ts))}
+    (p .symbol, w, over-trees ranks (reverse ts) (all-reverse ts [] (all-take r stack h) none)) (all-drop r stack h))
+
+pushAll-over : (ranks : List ℕ) (stack : List Tree) (fs : List ℕ) (last : List Tree) → pushAll ranks stack fs ≡ found last
+    → All (Over ranks) stack → All (Over ranks) last
+unfolding pushAll
+pushAll-over ranks stack [] last h o = let e : stack ≡ last = cc in rw (← e) o
+pushAll-over ranks stack (f ∷ fs) last h o =
+    let n = bind-found (push ranks stack f) (λ (next : List Tree). pushAll ranks next fs) h in
+    pushAll-over ranks (n .0) fs last (n .2) (push-over ranks stack f (pushed ranks stack f (n .1)) o)
+
+-- One tree is left.
+single-found : (stack : List Tree) (t : Tree) → single stack ≡ found t → stack ≡ t ∷ []
+unfolding single
+single-found [] t h = absurd (refused≢found h)
+single-found (s ∷ []) t h = let e : s ≡ t = cc in ap (λ (x : Tree). x ∷ []) e
+single-found (s ∷ (r ∷ ts)) t h = absurd (refused≢found h)
+
+all-append : {P : ℕ → Type 0} {xs ys : List ℕ} → All P xs → All P ys → All P (xs ++ ys)
+all-append none h = h
+all-append (also p ps) h = also p (all-append ps h)
+
+-- What a judge that finds a tree has seen.
+pub record TreeFound (ranks b : List ℕ) (t : Tree) : Type 0 where
+  pub opens : opened b ≡ whole 16 (length b)
+  pub even : length (bodyOf b) % 2 ≡ 0
+  pub nodes : length (numbers (bodyOf b)) ≤ 16384
+  pub spells : postfix t ≡ numbers (bodyOf b)
+  pub over : Over ranks t
+
+is-record : (o : Opening) (b : List ℕ) → isTreeRecord o b ≡ true → (o ≡ whole 16 (length b)) × (length (bodyOf b) % 2 ≡ 0)
+unfolding isTreeRecord
+is-record (whole kind end) b h =
+    let a = and-true-out (eqb kind 16) _ h in
+    let c = and-true-out (eqb end (length b)) _ (a .1) in
+    (ap₂ whole (eqb-true kind 16 (a .0)) (eqb-true end (length b) (c .0)), eqb-true (length (bodyOf b) % 2) 0 (c .1))
+is-record nothing b h = absurd (false≢true h)
+is-record (records.refused cause) b h = absurd (false≢true h)
+
+pub tree-found : (ranks b : List ℕ) (t : Tree) → judgeTree ranks b ≡ found t → TreeFound ranks b t
+unfolding judgeTree spelled
+tree-found ranks b t h =
+    let fs = numbers (bodyOf b) in
+    let a = checked (isTreeRecord (opened b) b) 8 _ h in
+    let c = checked (leb (length fs) 16384) 11 _ (a .1) in
+    let d = bind-found (pushAll ranks [] fs) single (c .1) in
+    let e : d .0 ≡ t ∷ [] = single-found (d .0) t (d .2) in
+    let o = is-record (opened b) b (a .0) in
+    record {
+      opens = o .0;
+      even = o .1;
+      nodes = leb-true (length fs) 16384 (c .0);
+      spells = rw e at (pushAll-spells ranks [] fs (d .0) (d .1));
+      over = all-first (rw e at (pushAll-over ranks [] fs (d .0) (d .1) none));
+    }
+
+-- What is read is written as the bytes that it was read from.
+pub encode-tree-judged : (ranks b : List ℕ) (t : Tree) → Bytes b → judgeTree ranks b ≡ found t → encodeTree t ≡ b
+unfolding encodeTree
+encode-tree-judged ranks b t h e =
+    let f = tree-found ranks b t e in
+    let body : fields (postfix t) ≡ bodyOf b = ap fields (f .spells) ∙ fields-numbers (bodyOf b) (bytes-body b (f .opens) h) (f .even) in
+    let nothing-behind : encodeRecord 16 (bodyOf b) ++ drop (length b) b ≡ encodeRecord 16 (bodyOf b) =
+    rw (drop-length b) (append-nil (encodeRecord 16 (bodyOf b))) in
+    rw body (sym nothing-behind ∙ record-encoded b (f .opens) h)
+
+-- The symbols of a tree over the symbols are below their number.
+mutual
+  unfolding Over postfix
+
+  symbols-below : (ranks : List ℕ) (t : Tree) → Over ranks t → All (λ (f : ℕ). f < length ranks) (postfix t)
+  symbols-below ranks (node f ts) o = all-append (all-symbols-below ranks ts (o .2)) (also (o .0) none)
+
+  all-symbols-below : (ranks : List ℕ) (ts : Trees) → AllOver ranks ts → All (λ (f : ℕ). f < length ranks) (postfixes ts)
+  all-symbols-below ranks nil o = none
+  all-symbols-below ranks (cons t ts) o = all-append (symbols-below ranks t (o .0)) (all-symbols-below ranks ts (o .1))
+
+-- A tree over the symbols that is not too large, written, is read back as that tree, or too many trees would wait.
+pub judge-tree-encoded : (ranks : List ℕ) (t : Tree) → length ranks ≤ 256 → length (postfix t) ≤ 16384 → Over ranks t
+    → Same (judgeTree ranks (encodeTree t)) (found t)
+unfolding judgeTree encodeTree isTreeRecord check _>>_ single
+judge-tree-encoded ranks t m n o =
+    let body = fields (postfix t) in
+    let b = encodeRecord 16 body in
+    let l : length body ≡ 2 * length (postfix t) = length-fields (postfix t) in
+    let opens : opened b ≡ whole 16 (6 + length body) =
+    rw append-nil at (record-opens 16 body [] (omega arith) (omega arith)) in
+    let is-body : bodyOf b ≡ body = rw append-nil at (record-body 16 body [] (omega arith) (omega arith)) in
+    let symbols : numbers body ≡ postfix t = numbers-fields (all-map (λ f h. omega arith) (symbols-below ranks t o)) in
+    rw (
+      opens,
+      is-body,
+      symbols,
+      eq-eqb (6 + length body) (length b) (sym (length-record 16 body)),
+      eq-eqb (length body % 2) 0 (omega arith),
+      le-leb (length (postfix t)) 16384 n,
+    )
+    (same-then ranks (pushAll ranks [] (postfix t)) (t ∷ []) single (tree-read ranks t o))

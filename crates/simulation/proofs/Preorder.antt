@@ -1,0 +1,80 @@
+-- The simulation preorder of a well-formed automaton: its states are closed under its rules, so it is the largest downward
+-- simulation, reflexive and transitive.
+use Prim.Native.Nat.{ℕ, zero, suc, _+_, _*_, _-_, _≤_, _<_}
+use native.Mathlib.Omega.{arith}
+use native.Mathlib.Decide.{ℕ-discrete}
+use mathlib.Core.Path.{_≡_, refl, ap, subst⁻¹}
+use mathlib.Core.List.{List, [], _∷_, List·Memᴰ, List·Memᴰ·head, List·Memᴰ·tail, List·Memᴰ·not-nil}
+use lib.ListN.{length}
+use Rattle.automaton.specs.Lists.{All, none, also, from}
+use Rattle.automaton.specs.Automaton.{Rule, Automaton, WellFormed, WellFormedRule}
+use Rattle.simulation.specs.Simulation.{Simulates}
+use Rattle.simulation.specs.Query.{simulationOf, roundsOf}
+use Rattle.simulation.proofs.Refinement.{Within}
+use Rattle.simulation.proofs.Maximality as maximality
+use Rattle.simulation.proofs.Maximality.{Closed}
+
+pub all-member : {A : Type 0} {P : A → Type 0} {x : A} {xs : List A} → All P xs → List·Memᴰ x xs → P x
+all-member {P = P} (also p ps) (List·Memᴰ·head e) = subst⁻¹ P e p
+all-member (also p ps) (List·Memᴰ·tail m) = all-member ps m
+
+pub length-from : (i n : ℕ) → length (from i n) ≡ n
+unfolding from
+length-from i zero = refl
+length-from i (suc n) = ap suc (length-from (suc i) n)
+
+pub from-member : (n i q : ℕ) → i ≤ q → q < i + n → List·Memᴰ q (from i n)
+unfolding from
+from-member zero i q l h = absurd (omega arith)
+from-member (suc n) i q l h =
+    elim (ℕ-discrete q i)
+    [ yes e ↦ List·Memᴰ·head e | no d ↦ List·Memᴰ·tail (from-member n (suc i) q (omega arith) (omega arith)) ]
+
+pub member-from : (n i q : ℕ) → List·Memᴰ q (from i n) → (i ≤ q) × (q < i + n)
+unfolding from
+member-from zero i q m = absurd (List·Memᴰ·not-nil m)
+member-from (suc n) i q (List·Memᴰ·head e) = (omega arith, omega arith)
+member-from (suc n) i q (List·Memᴰ·tail m) = let h = member-from n (suc i) q m in (omega arith, omega arith)
+
+module _ (A : Automaton) (w : WellFormed A) where
+  below-member : (q : ℕ) → q < A .states → List·Memᴰ q (from 0 (A .states))
+  below-member q h = from-member (A .states) 0 q (omega arith) (omega arith)
+
+  member-below : (q : ℕ) → List·Memᴰ q (from 0 (A .states)) → q < A .states
+  member-below q m = let h = member-from (A .states) 0 q m in omega arith
+
+  states-closed : Closed (A .rules) (from 0 (A .states))
+  unfolding Closed
+  states-closed u m t q c =
+      let r : WellFormedRule A u = all-member (w .rules) m in
+      below-member q (all-member (r .children) c)
+
+  pub preorder-simulates : Simulates (A .rules) (A .rules) (λ (q r : ℕ). Within (simulationOf A) q r)
+  unfolding simulationOf
+  preorder-simulates = maximality.relation-simulates (A .rules) (from 0 (A .states))
+
+  pub preorder-largest : (D : ℕ → ℕ → Type 0) → Simulates (A .rules) (A .rules) D
+      → ((q r : ℕ) → D q r → (q < A .states) × (r < A .states)) → (q r : ℕ) → D q r → Within (simulationOf A) q r
+  unfolding simulationOf
+  preorder-largest D simulates inside =
+      maximality.relation-largest (A .rules) (from 0 (A .states)) D simulates
+      (λ q r d. (below-member q (inside q r d .0), below-member r (inside q r d .1)))
+
+  pub preorder-states : (q r : ℕ) → Within (simulationOf A) q r → (q < A .states) × (r < A .states)
+  unfolding simulationOf
+  preorder-states q r h =
+      let m = maximality.relation-states (A .rules) (from 0 (A .states)) q r h in
+      (member-below q (m .0), member-below r (m .1))
+
+  pub preorder-reflexive : (q : ℕ) → q < A .states → Within (simulationOf A) q q
+  unfolding simulationOf
+  preorder-reflexive q h =
+      maximality.relation-reflexive (A .rules) (from 0 (A .states)) states-closed q (below-member q h)
+
+  pub preorder-transitive : (q r s : ℕ) → Within (simulationOf A) q r → Within (simulationOf A) r s → Within (simulationOf A) q s
+  unfolding simulationOf
+  preorder-transitive = maximality.relation-transitive (A .rules) (from 0 (A .states))
+
+  pub rounds-few : roundsOf A ≤ A .states * (A .states - 1)
+  unfolding roundsOf
+  rounds-few = rw (length-from 0 (A .states)) at (maximality.rounds-below (A .rules) (from 0 (A .states)) states-closed)

@@ -1,0 +1,14 @@
+-- `simulation::checking::check` meets its contract: the counts get the answer.
+use borrow.Author.Needs.{needs}
+use mathlib.Core.Path.{ap, _∙_}
+use Rattle.simulation.specs.Check.{counted}
+use Rattle.simulation.proofs.checking.check.Statement.{statement}
+use Rattle.simulation.proofs.checking.check.Tie as tie
+
+returns : tie.Need-returns
+returns c =
+    let e = c .before .answer-for .ensures in
+    record { answer = e; counts-after = c .with .ensures ∙ ap (counted (c .before .before .before .before .args .counts)) e }
+
+pub check-spec : {M : Type 1} → statement M
+check-spec = tie.close (tie.spec (λ c κs. search needs) (λ c κs. search needs) returns)

@@ -1,0 +1,87 @@
+-- The relation query and the pair query.
+use Prim.Native.Nat.{ℕ, zero, suc, _+_, _*_}
+use mathlib.Core.Path.{_≡_}
+use mathlib.Core.Bool.{Bool, true, false, cond, _&&_}
+use mathlib.Core.List.{List, [], _∷_, _++_}
+use lib.ListN.{length, drop}
+use lib.Dec.{ltb}
+use Rattle.automaton.specs.Lists.{from}
+use Rattle.automaton.specs.Refusal.{numberOf}
+use Rattle.automaton.specs.Automaton.{Rule, Automaton}
+use Rattle.automaton.specs.Read.{Read, found, refused, _>>=_, _>>_, check}
+use Rattle.automaton.specs.Table.{judge}
+use Rattle.automaton.specs.Decoded.{written, writtenOver}
+use Rattle.simulation.specs.Simulation.{Relation, related, matched, relation, rounds}
+use Rattle.simulation.specs.declared.query.Compared.{Compared}
+use Rattle.simulation.specs.declared.query.Compared.the-variants as compared
+use Rattle.simulation.specs.declared.query.Related.{Related}
+use Rattle.simulation.specs.declared.query.Related.the-variants as answers
+
+-- The simulation preorder of an automaton: q ≤ r on all its states; and its rounds.
+unfoldable pub simulationOf : Automaton → Relation
+simulationOf A = relation (A .rules) (from 0 (A .states))
+
+unfoldable pub roundsOf : Automaton → ℕ
+roundsOf A = rounds (A .rules) (from 0 (A .states))
+
+-- n bits from state r on, the lowest first.
+unfoldable pub bitsFrom : Relation → ℕ → ℕ → ℕ → ℕ
+bitsFrom R q r zero = 0
+bitsFrom R q r (suc n) = cond (related R q r) 1 0 + 2 * bitsFrom R q (suc r) n
+
+-- Bit r mod 8 of byte r div 8 in row q is 1 if q ≤ r.
+unfoldable pub rowBytes : Relation → ℕ → ℕ → ℕ → List ℕ
+rowBytes R q i zero = []
+rowBytes R q i (suc n) = bitsFrom R q (8 * i) 8 ∷ rowBytes R q (suc i) n
+
+unfoldable pub relationRows : Relation → List ℕ → List ℕ
+relationRows R [] = []
+relationRows R (q ∷ qs) = rowBytes R q 0 32 ++ relationRows R qs
+
+unfoldable pub relationBytes : Automaton → List ℕ
+relationBytes A = relationRows (simulationOf A) (from 0 (A .states))
+
+pub record RoundsAndPairs : Type 0 where
+  pub rounds : ℕ
+  pub pairs : ℕ
+
+unfoldable pub relatedOf : Related → Read RoundsAndPairs
+relatedOf (answers.Pairs rounds pairs) = found (record { rounds = rounds; pairs = pairs })
+relatedOf (answers.Refused cause) = refused (numberOf cause)
+
+-- The relation query: rounds and the number of pairs, or the refusal; 13 where the output is shorter than the rows.
+unfoldable pub relationQuery : List ℕ → List ℕ → Read RoundsAndPairs
+relationQuery table out = do
+  A ← judge table
+  written (relationBytes A) out
+  found (record { rounds = roundsOf A; pairs = length (simulationOf A) })
+
+-- The output afterwards: a refusal, 13 too, leaves it.
+unfoldable pub relationAfter : Read Automaton → List ℕ → List ℕ
+relationAfter (found A) out = writtenOver (relationBytes A) out
+relationAfter (refused cause) out = out
+
+-- The pair query: yes, or no; 12 where a state number is not below n.
+unfoldable pub pairQuery : List ℕ → ℕ → ℕ → Read Bool
+pairQuery table q r = do
+  A ← judge table
+  check (ltb q (A .states) && ltb r (A .states)) 12
+  found (related (simulationOf A) q r)
+
+-- Rule i is a rule of q that no rule of r matches under ≤.
+pub record Unmatched (A : Automaton) (q r i : ℕ) : Type 0 where
+  pub rule : Rule
+  pub behind : List Rule
+  pub number : drop i (A .rules) ≡ rule ∷ behind
+  pub target : rule .target ≡ q
+  pub unmatched : matched (A .rules) (simulationOf A) r rule ≡ false
+
+-- The answer, and for the rule's number what holds of it.
+unfoldable pub comparisonOf : Compared → Read Bool
+comparisonOf compared.Yes = found true
+comparisonOf (compared.Rule i) = found false
+comparisonOf (compared.Refused cause) = refused (numberOf cause)
+
+pub record Compares (table : List ℕ) (q r : ℕ) (answer : Compared) : Type 0 where
+  pub verdict : comparisonOf answer ≡ pairQuery table q r
+  pub unmatched : (A : Automaton) → judge table ≡ found A → (i : ℕ) → answer ≡ compared.Rule i → Unmatched A q r i
