@@ -18,7 +18,7 @@ use Rattle.automaton.proofs.Elements.{all-map}
 use Rattle.automaton.specs.StateSet.{unionOf, withAll, setOf}
 use Rattle.automaton.specs.Lists.{All, none, also, Rising, empty, single, step, from, keep}
 
-below-four : (P : ℕ → Type 0) → P 0 → P 1 → P 2 → P 3 → (i : ℕ) → i < 4 → P i
+pub below-four : (P : ℕ → Type 0) → P 0 → P 1 → P 2 → P 3 → (i : ℕ) → i < 4 → P i
 below-four P a b c d zero h = a
 below-four P a b c d (suc zero) h = b
 below-four P a b c d (suc (suc zero)) h = c

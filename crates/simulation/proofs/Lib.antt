@@ -12,5 +12,10 @@ pub mod Targets
 pub mod Stacks
 pub mod Evaluating
 pub mod Accepting
+pub mod Rows
+pub mod Walks
+pub mod Settling
+pub mod RelationWords
+pub mod Queries
 pub mod Theorems
 pub mod Examples

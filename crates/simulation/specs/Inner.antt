@@ -1,10 +1,11 @@
 -- What only the contracts of inner functions cite; the meaning of the public calls needs none of it.
-use Prim.Native.Nat.{ℕ, suc, _+_, _*_, _≤_, _<_}
+use Prim.Native.Nat.{ℕ, zero, suc, _+_, _*_, _/_, _%_, _^_, _≤_, _<_}
 use mathlib.Core.Path.{_≡_}
-use mathlib.Core.List.{List, [], _∷_}
-use mathlib.Core.Bool.{Bool, true, _&&_}
-use lib.ListN.{length, drop, getD}
+use mathlib.Core.List.{List, [], _∷_, map}
+use mathlib.Core.Bool.{Bool, true, not, cond, _&&_, _||_}
+use lib.ListN.{length, take, drop, getD}
 use lib.Dec.{eqb}
+use lib.Count.{ones}
 use Rattle.automaton.specs.Lists.{from, keep}
 use Rattle.automaton.specs.Refusal.{numberOf}
 use Rattle.automaton.specs.Automaton.{Rule, Automaton}
@@ -13,6 +14,7 @@ use Rattle.automaton.specs.StateSet.{member}
 use Rattle.automaton.specs.Decoded.{ruleAt}
 use Rattle.simulation.specs.Tree.{Tree, any, belongs, accepts}
 use Rattle.simulation.specs.Postfix.{pushAll, single, judgeTree}
+use Rattle.simulation.specs.Simulation.{Relation, keepPairs, refine, allPairs, matched}
 use Rattle.simulation.specs.declared.evaluation.Height.{Height}
 use Rattle.simulation.specs.declared.evaluation.Height.the-variants as height
 
@@ -85,3 +87,51 @@ unfoldable pub treeAcceptance : Automaton → List ℕ → Read Bool
 treeAcceptance A b = do
   t ← judgeTree (A .ranks) b
   found (accepts A t)
+
+-- What the rounds work on: k rules in decoded arrays, and the chains that lead to them by symbol and by target.
+pub record IndexedTwice (k : ℕ) (ranks rows symbolHead symbolNext targetHead targetNext : List ℕ) : Type 0 where
+  pub count : k ≤ 1024
+  pub ranged : (i : ℕ) → i < k → RowRanged ranks rows i
+  pub symbols : Chains rows 0 k symbolHead symbolNext
+  pub targets : Chains rows 1 k targetHead targetNext
+
+-- A set has just the states below 256 that pass a test.
+abbrev pub Has : List ℕ → (ℕ → Bool) → Type 0
+Has set test = (r : ℕ) → r < 256 → member set r ≡ test r
+
+-- The relation that 256 rows hold: row q is the set of the states that q is related to.
+unfoldable pub relationIn : List (List ℕ) → Relation
+relationIn matrix = keepPairs (λ (p : ℕ × ℕ). member (getD matrix (p .0) []) (p .1)) (allPairs (from 0 256) (from 0 256))
+
+-- Whether a round loses a pair.
+unfoldable pub loses : List Rule → Relation → Bool
+loses rules R = not (eqb (length (refine rules R)) (length R))
+
+-- Up to eight numbers of a row, from its third on: the children of rule i.
+unfoldable pub childrenAt : List ℕ → ℕ → ℕ → List ℕ
+childrenAt rows rank i = take rank (drop (10 * i + 2) rows)
+
+-- The `count` numbers from index `at` on are below 256.
+unfoldable pub StatesBelow : List ℕ → ℕ → ℕ → Type 0
+StatesBelow rows at count = (j : ℕ) → j < count → getD rows (at + j) 0 < 256
+
+-- The first n bytes of 64-bit words, each word's lowest byte first.
+unfoldable pub byteOf : List ℕ → ℕ → ℕ
+byteOf words i = getD words (i / 8) 0 / 2 ^ (8 * (i % 8)) % 256
+
+unfoldable pub bytesOf : List ℕ → ℕ → List ℕ
+bytesOf words n = map (byteOf words) (from 0 n)
+
+-- How many bits are set in some words.
+unfoldable pub onesOf : List ℕ → ℕ
+onesOf [] = 0
+onesOf (w ∷ ws) = ones w + onesOf ws
+
+-- How many elements stand before the first that fails a test.
+unfoldable pub firstFailing : {A : Type 0} → (A → Bool) → List A → ℕ
+firstFailing test [] = zero
+firstFailing test (x ∷ xs) = cond (test x) (suc (firstFailing test xs)) zero
+
+-- The number of the first rule of q that no rule of r matches; the number of rules where each has a match.
+unfoldable pub firstUnmatched : List Rule → Relation → ℕ → ℕ → ℕ
+firstUnmatched rules R q r = firstFailing (λ (u : Rule). not (eqb (u .target) q) || matched rules R r u) rules

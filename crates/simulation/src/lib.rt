@@ -3,6 +3,7 @@ mod checking;
 mod evaluation;
 mod index;
 mod query;
+mod rounds;
 
 pub use checking::Answer;
 pub use checking::Checked;
@@ -10,3 +11,7 @@ pub use checking::Counts;
 pub use checking::check;
 pub use query::Compared;
 pub use query::Related;
+pub use query::compare;
+pub use query::relate;
+pub use rounds::Relation;
+pub use rounds::simulate;

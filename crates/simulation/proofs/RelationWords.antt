@@ -1,0 +1,342 @@
+-- A relation in words: a bit is a pair, the words' bytes are the rows, and the bits that are set are the pairs.
+use Prim.Native.Nat.{ℕ, zero, suc, _+_, _-_, _*_, _/_, _%_, _^_, _≤_, _<_}
+use mathlib.Core.Path.{_≡_, refl, sym, ap, _∙_}
+use mathlib.Core.List.{List, [], _∷_, _++_, map, map-append, append-assoc}
+use mathlib.Core.Bool.{Bool, true, false, cond}
+use native.Mathlib.Nat.{add-zero, add-suc, suc-add, zero-add, add-assoc}
+use native.Mathlib.Numerals.{add-one}
+use native.Mathlib.Omega.{arith}
+use lib.ListN.{length, getD, take, set, length-append, length-map, List·getD-append}
+use lib.Seq.{getD-append-add, take-at, take-suc, sets-eq}
+use lib.Dec.{eqb}
+use lib.Bits.{bitOr, or-lt}
+use lib.Pow.{pow-lt, mod-pow-add, shr-shr, shr-lt}
+use lib.Count.{ones, ones-step}
+use borrow.Author.Tests.{eqb-true, eqb-false}
+use Rattle.automaton.specs.Lists.{All, none, also, Rising, empty, single, step, from, keep}
+use Rattle.automaton.specs.StateSet.{member, words, emptySet, replaced, withState, withAll, setOf}
+use Rattle.automaton.specs.Inner.{over}
+use Rattle.automaton.proofs.StateSets.{words-getD, bit, bit-suc, elem, elem-above}
+use Rattle.automaton.proofs.StateSets.{member-setOf, length-setOf, states-of-set}
+use Rattle.automaton.proofs.WrittenBytes.{from-step, length-from, keep-append, over-then}
+use Rattle.simulation.specs.Simulation.{Relation, related}
+use Rattle.simulation.specs.Query.{bitsFrom, rowBytes, relationRows}
+use Rattle.simulation.specs.Words.{statesIn, rowWords, rowsWords, relationWords}
+use Rattle.simulation.specs.Inner.{byteOf, bytesOf, onesOf}
+use Rattle.simulation.proofs.Pairs.{pairsIn}
+
+-- Ranges.
+
+pub from-append : (i a b : ℕ) → from i (a + b) ≡ from i a ++ from (i + a) b
+unfolding from
+from-append i zero b = rw (zero-add, add-zero)
+from-append i (suc a) b = rw (suc-add, add-suc, ← suc-add) (ap (λ (l : List ℕ). i ∷ l) (from-append (suc i) a b))
+
+pub from-low : (i n k : ℕ) → i + n ≤ k → All (λ (q : ℕ). q < k) (from i n)
+unfolding from
+from-low i zero k h = none
+from-low i (suc n) k h = also {x = i} (omega arith) (from-low (suc i) n k (omega arith))
+
+pub from-rising : (i n : ℕ) → Rising (from i n)
+unfolding from
+from-rising i zero = empty
+from-rising i (suc zero) = single
+from-rising i (suc (suc n)) = step {a = i} {b = suc i} (omega arith) (from-rising (suc i) (suc n))
+
+pub all-states-in : (n : ℕ) → n ≤ 256 → statesIn n (setOf (from 0 n)) ≡ from 0 n
+unfolding statesIn
+all-states-in n h = states-of-set (from 0 n) n h (from-low 0 n n (omega arith)) (from-rising 0 n)
+
+pub keep-low : (test : ℕ → Bool) (k : ℕ) {qs : List ℕ} → All (λ (q : ℕ). q < k) qs → All (λ (q : ℕ). q < k) (keep test qs)
+unfolding keep
+keep-low test k none = none
+keep-low test k (also {x = q} {xs = qs} p ps) = go (test q) (keep-low test k ps)
+  where
+    go : (t : Bool) → All (λ (q : ℕ). q < k) (keep test qs)
+        → All (λ (q : ℕ). q < k) (cond t (q ∷ keep test qs) (keep test qs))
+    go true ps = also p ps
+    go false ps = ps
+
+pub keep-high : (test : ℕ → Bool) (i n k : ℕ) → k < i → All (λ (q : ℕ). k < q) (keep test (from i n))
+unfolding keep from
+keep-high test i zero k h = none
+keep-high test i (suc n) k h = go (test i) (keep-high test (suc i) n k (omega arith))
+  where
+    go : (t : Bool) → All (λ (q : ℕ). k < q) (keep test (from (suc i) n))
+        → All (λ (q : ℕ). k < q) (cond t (i ∷ keep test (from (suc i) n)) (keep test (from (suc i) n)))
+    go true ps = also h ps
+    go false ps = ps
+
+pub keep-none : (test : ℕ → Bool) (i n : ℕ) → ((r : ℕ) → i ≤ r → test r ≡ false) → keep test (from i n) ≡ []
+unfolding keep from
+keep-none test i zero h = refl
+keep-none test i (suc n) h = rw (h i (omega arith)) (keep-none test (suc i) n (λ r l. h r (omega arith)))
+
+pub elem-keep : (test : ℕ → Bool) (i n r : ℕ) → i ≤ r → r < i + n → elem r (keep test (from i n)) ≡ test r
+unfolding keep from elem
+elem-keep test i zero r l h = absurd (omega arith)
+elem-keep test i (suc n) r l h = go (eqb r i) refl (test i) refl (elem-keep test (suc i) n r)
+  where
+    rest : List ℕ
+    rest = keep test (from (suc i) n)
+
+    go : (s : Bool) → eqb r i ≡ s → (t : Bool) → test i ≡ t → (suc i ≤ r → r < suc i + n → elem r rest ≡ test r)
+        → elem r (cond t (i ∷ rest) rest) ≡ test r
+    go true e true f later = rw e (sym (ap test (eqb-true r i e) ∙ f))
+    go true e false f later =
+        let same : r ≡ i = eqb-true r i e in
+        elem-above r (keep-high test (suc i) n r (omega arith)) ∙ sym (ap test same ∙ f)
+    go false e true f later =
+        let other : r ≡ i → ⊥ = eqb-false r i e in
+        rw e (later (omega arith) (omega arith))
+    go false e false f later =
+        let other : r ≡ i → ⊥ = eqb-false r i e in
+        later (omega arith) (omega arith)
+
+-- The words of a set fit 64 bits.
+
+Small : List ℕ → Type 0
+Small ws = (i : ℕ) → getD ws i 0 < 18446744073709551616
+
+small-words : (f : ℕ → ℕ) → ((i : ℕ) → f i < 18446744073709551616) → Small (words f)
+unfolding Small words
+small-words f h zero = h 0
+small-words f h (suc zero) = h 1
+small-words f h (suc (suc zero)) = h 2
+small-words f h (suc (suc (suc zero))) = h 3
+small-words f h (suc (suc (suc (suc i)))) = omega arith
+
+small-with : (ws : List ℕ) (q : ℕ) → Small ws → Small (withState ws q)
+unfolding withState replaced Small
+small-with ws q h = small-words _ (λ i. go i (eqb i (q / 64)))
+  where
+    go : (i : ℕ) (t : Bool)
+        → cond t (bitOr (getD ws (q / 64) 0) (2 ^ (q % 64))) (getD ws i 0) < 18446744073709551616
+    go i true = or-lt 64 (getD ws (q / 64) 0) (2 ^ (q % 64)) (h (q / 64)) (pow-lt {j = 64} (omega arith))
+    go i false = h i
+
+small-all : (ws qs : List ℕ) → Small ws → Small (withAll ws qs)
+unfolding withAll
+small-all ws [] h = h
+small-all ws (q ∷ qs) h = small-all (withState ws q) qs (small-with ws q h)
+
+small-set : (qs : List ℕ) → Small (setOf qs)
+unfolding setOf emptySet
+small-set qs = small-all emptySet qs (small-words _ (λ i. omega arith))
+
+-- Rows.
+
+module _ (R : Relation) where
+  pub length-row : (q : ℕ) → length (rowWords R q) ≡ 4
+  unfolding rowWords
+  length-row q = length-setOf (keep (related R q) (from 0 256))
+
+  pub length-rows : (i n : ℕ) → length (rowsWords R (from i n)) ≡ 4 * n
+  unfolding rowsWords from
+  length-rows i zero = refl
+  length-rows i (suc n) = rw (length-append, length-row, length-rows (suc i) n) (omega arith)
+
+  pub length-relation : length (relationWords R) ≡ 1024
+  unfolding relationWords
+  length-relation = length-rows 0 256
+
+  rows-at : (n i q j : ℕ) → q < n → j < 4 → getD (rowsWords R (from i n)) (4 * q + j) 0 ≡ getD (rowWords R (i + q)) j 0
+  unfolding rowsWords from
+  rows-at zero i q j h l = absurd (omega arith)
+  rows-at (suc n) i zero j h l =
+      rw (zero-add, add-zero)
+      (List·getD-append (rowWords R i) (rowsWords R (from (suc i) n)) 0 j (omega (arith, length-row i)))
+  rows-at (suc n) i (suc q) j h l =
+      let place : 4 * suc q + j ≡ length (rowWords R i) + (4 * q + j) = omega (arith, length-row i) in
+      rw (place, getD-append-add, add-suc, ← suc-add) (rows-at n (suc i) q j (omega arith) l)
+
+  pub word-at : (q j : ℕ) → q < 256 → j < 4 → getD (relationWords R) (4 * q + j) 0 ≡ getD (rowWords R q) j 0
+  unfolding relationWords
+  word-at q j h l = rows-at 256 0 q j h l ∙ ap (λ (p : ℕ). getD (rowWords R p) j 0) (zero-add q)
+
+  pub row-word-small : (q j : ℕ) → getD (rowWords R q) j 0 < 18446744073709551616
+  unfolding rowWords Small
+  row-word-small q = small-set (keep (related R q) (from 0 256))
+
+  pub row-member : (q r : ℕ) → r < 256 → member (rowWords R q) r ≡ related R q r
+  unfolding rowWords
+  row-member q r h =
+      member-setOf (keep (related R q) (from 0 256)) r h
+      ∙ elem-keep (related R q) 0 256 r (omega arith) (omega arith)
+
+  pub row-bit : (q j s : ℕ) → j < 4 → s < 64 → bit (getD (rowWords R q) j 0) s ≡ related R q (64 * j + s)
+  unfolding bit member
+  row-bit q j s h l =
+      let word : (64 * j + s) / 64 ≡ j = omega arith in
+      let place : (64 * j + s) % 64 ≡ s = omega arith in
+      rw (word, place) at (row-member q (64 * j + s) (omega arith))
+
+  pub word-bit : (q r : ℕ) → q < 256 → r < 256
+      → eqb (getD (relationWords R) (4 * q + r / 64) 0 / 2 ^ (r % 64) % 2) 1 ≡ related R q r
+  unfolding member
+  word-bit q r h l = rw (word-at q (r / 64) h (omega arith)) (row-member q r l)
+
+-- A row's bytes.
+
+digit : (t : Bool) (x : ℕ) → x < 2 → eqb x 1 ≡ t → x ≡ cond t 1 0
+digit true x h e = eqb-true x 1 e
+digit false x h e = let other : x ≡ 1 → ⊥ = eqb-false x 1 e in omega arith
+
+pub bit-shifted : (w s k : ℕ) → bit (w / 2 ^ s) k ≡ bit w (s + k)
+unfolding bit
+bit-shifted w s k = rw shr-shr
+
+low-bits : (R : Relation) (q n r x : ℕ) → ((k : ℕ) → k < n → bit x k ≡ related R q (r + k))
+    → x % 2 ^ n ≡ bitsFrom R q r n
+unfolding bitsFrom bit
+low-bits R q zero r x h = omega arith
+low-bits R q (suc n) r x h =
+    let first : x / 2 ^ 0 % 2 ≡ cond (related R q r) 1 0 =
+    digit (related R q r) (x / 2 ^ 0 % 2) (omega arith) (h 0 (omega arith) ∙ ap (related R q) (add-zero r)) in
+    let later : x / 2 % 2 ^ n ≡ bitsFrom R q (suc r) n =
+    low-bits R q n (suc r) (x / 2)
+    (λ k l. sym (bit-suc x k) ∙ h (suc k) (omega arith) ∙ ap (related R q) (omega arith)) in
+    let split : x % 2 ^ (n + 1) ≡ x / 2 ^ 1 % 2 ^ n * 2 ^ 1 + x % 2 ^ 1 = mod-pow-add x n 1 in
+    ap (λ (m : ℕ). x % 2 ^ m) (sym (add-one n)) ∙ split ∙ omega arith
+
+module _ (R : Relation) where
+  byte-is : (q i : ℕ) → q < 256 → i < 32 → byteOf (relationWords R) (32 * q + i) ≡ bitsFrom R q (8 * i) 8
+  unfolding byteOf
+  byte-is q i h l =
+      let word : (32 * q + i) / 8 ≡ 4 * q + i / 8 = omega arith in
+      let place : (32 * q + i) % 8 ≡ i % 8 = omega arith in
+      rw (word, place, word-at R q (i / 8) h (omega arith))
+      (low-bits R q 8 (8 * i) (getD (rowWords R q) (i / 8) 0 / 2 ^ (8 * (i % 8)))
+      (λ k b. bit-shifted (getD (rowWords R q) (i / 8) 0) (8 * (i % 8)) k
+      ∙ row-bit R q (i / 8) (8 * (i % 8) + k) (omega arith) (omega arith) ∙ ap (related R q) (omega arith)))
+
+  row-bytes : (n q i : ℕ) → q < 256 → i + n ≤ 32 → map (byteOf (relationWords R)) (from (32 * q + i) n) ≡ rowBytes R q i n
+  unfolding rowBytes from
+  row-bytes zero q i h l = refl
+  row-bytes (suc n) q i h l =
+      rw (byte-is q i h (omega arith), ← add-suc (32 * q) i, row-bytes n q (suc i) h (omega arith))
+
+  next-row : (n q : ℕ) → q < 256 → map (byteOf (relationWords R)) (from (32 * q) (32 * suc n))
+      ≡ rowBytes R q 0 32 ++ map (byteOf (relationWords R)) (from (32 * suc q) (32 * n))
+  next-row n q h =
+      let more : 32 * suc n ≡ 32 + 32 * n = omega arith in
+      let next : 32 * q + 32 ≡ 32 * suc q = omega arith in
+      rw (more, from-append, map-append, next, ← row-bytes 32 q 0 h (omega arith), add-zero)
+
+  rows-bytes : (n q : ℕ) → q + n ≤ 256
+      → map (byteOf (relationWords R)) (from (32 * q) (32 * n)) ≡ relationRows R (from q n)
+  unfolding relationRows from
+  rows-bytes zero q h = refl
+  rows-bytes (suc n) q h = next-row n q (omega arith) ∙ ap (_++_ (rowBytes R q 0 32)) (rows-bytes n (suc q) (omega arith))
+
+  pub bytes-rows : (n : ℕ) → n ≤ 256 → bytesOf (relationWords R) (32 * n) ≡ relationRows R (from 0 n)
+  unfolding bytesOf
+  bytes-rows n h = rows-bytes n 0 (omega arith)
+
+-- A row's bits that are set.
+
+ones-bits : (test : ℕ → Bool) (n r x : ℕ) → x < 2 ^ n → ((k : ℕ) → k < n → bit x k ≡ test (r + k))
+    → ones x ≡ length (keep test (from r n))
+unfolding keep from bit ones
+ones-bits test zero r x h same = let none : x ≡ 0 = omega arith in rw none
+ones-bits test (suc n) r x h same =
+    ones-step x ∙ go (test r) (digit (test r) (x / 2 ^ 0 % 2) (omega arith) (same 0 (omega arith) ∙ ap test (add-zero r)))
+    (ones-bits test n (suc r) (x / 2) (shr-lt n 1 (rw (add-one) h))
+    (λ k l. sym (bit-suc x k) ∙ same (suc k) (omega arith) ∙ ap test (omega arith)))
+  where
+    go : (t : Bool) → x / 2 ^ 0 % 2 ≡ cond t 1 0 → ones (x / 2) ≡ length (keep test (from (suc r) n))
+        → x % 2 + ones (x / 2) ≡ length (cond t (r ∷ keep test (from (suc r) n)) (keep test (from (suc r) n)))
+    go true d later = omega arith
+    go false d later = omega arith
+
+pub ones-append : (us vs : List ℕ) → onesOf (us ++ vs) ≡ onesOf us + onesOf vs
+unfolding onesOf
+ones-append [] vs = sym (zero-add (onesOf vs))
+ones-append (u ∷ us) vs = rw (ones-append us vs, add-assoc)
+
+length-keep-append : (test : ℕ → Bool) (i a b : ℕ)
+    → length (keep test (from i (a + b))) ≡ length (keep test (from i a)) + length (keep test (from (i + a) b))
+length-keep-append test i a b = rw (from-append, keep-append, length-append)
+
+module _ (R : Relation) where
+  ones-word : (q j : ℕ) → j < 4 → ones (getD (rowWords R q) j 0) ≡ length (keep (related R q) (from (64 * j) 64))
+  ones-word q j h =
+      ones-bits (related R q) 64 (64 * j) (getD (rowWords R q) j 0) (row-word-small R q j) (λ k l. row-bit R q j k h l)
+
+  ones-row : (q : ℕ) → onesOf (rowWords R q) ≡ length (keep (related R q) (from 0 256))
+  unfolding onesOf words
+  ones-row q =
+      ap onesOf (words-getD (rowWords R q) (length-row R q))
+      ∙ omega (
+        arith,
+        ones-word q 0 (omega arith),
+        ones-word q 1 (omega arith),
+        ones-word q 2 (omega arith),
+        ones-word q 3 (omega arith),
+        length-keep-append (related R q) 0 64 192,
+        length-keep-append (related R q) 64 64 128,
+        length-keep-append (related R q) 128 64 64,
+      )
+
+  ones-rows : (qs : List ℕ) → onesOf (rowsWords R qs) ≡ pairsIn (related R) qs (from 0 256)
+  unfolding rowsWords pairsIn onesOf
+  ones-rows [] = refl
+  ones-rows (q ∷ qs) = rw (ones-append, ones-row q, ones-rows qs)
+
+  rows-append : (ps qs : List ℕ) → rowsWords R (ps ++ qs) ≡ rowsWords R ps ++ rowsWords R qs
+  unfolding rowsWords
+  rows-append [] qs = refl
+  rows-append (p ∷ ps) qs = rw (rows-append ps qs) (sym (append-assoc (rowWords R p) (rowsWords R ps) (rowsWords R qs)))
+
+  rows-taken : (n : ℕ) → n ≤ 256 → take (4 * n) (relationWords R) ≡ rowsWords R (from 0 n)
+  unfolding relationWords
+  rows-taken n h =
+      let all : 256 ≡ n + (256 - n) = omega arith in
+      ap (λ (m : ℕ). take (4 * n) (rowsWords R (from 0 m))) all
+      ∙ rw (from-append, rows-append) (take-at _ _ (4 * n) (length-rows R 0 n))
+
+  narrowed : (qs : List ℕ) (n : ℕ) → n ≤ 256 → ((q r : ℕ) → n ≤ r → related R q r ≡ false)
+      → pairsIn (related R) qs (from 0 256) ≡ pairsIn (related R) qs (from 0 n)
+  unfolding pairsIn
+  narrowed [] n h low = refl
+  narrowed (q ∷ qs) n h low =
+      let all : n + (256 - n) ≡ 256 = omega arith in
+      let few : length (keep (related R q) (from 0 256)) ≡ length (keep (related R q) (from 0 n)) + 0 =
+      rw (all, zero-add, keep-none (related R q) n (256 - n) (λ r l. low q r l))
+      at (length-keep-append (related R q) 0 n (256 - n)) in
+      rw (few, add-zero, narrowed qs n h low)
+
+  pub ones-pairs : (n : ℕ) → n ≤ 256 → ((q r : ℕ) → n ≤ r → related R q r ≡ false)
+      → onesOf (take (4 * n) (relationWords R)) ≡ pairsIn (related R) (from 0 n) (from 0 n)
+  ones-pairs n h low = ap onesOf (rows-taken n h) ∙ ones-rows (from 0 n) ∙ narrowed (from 0 n) n h low
+
+-- A set that grows by the next state.
+
+with-append : (ws ps qs : List ℕ) → withAll ws (ps ++ qs) ≡ withAll (withAll ws ps) qs
+unfolding withAll
+with-append ws [] qs = refl
+with-append ws (p ∷ ps) qs = with-append (withState ws p) ps qs
+
+pub set-next : (n : ℕ) → setOf (from 0 (n + 1)) ≡ withState (setOf (from 0 n)) n
+unfolding setOf withAll
+set-next n = rw (from-step, zero-add) (with-append emptySet (from 0 n) (n ∷ []))
+
+-- A turn of the loop that writes the bytes, and of the one that counts.
+
+over-one : (out : List ℕ) (at v : ℕ) → at + 1 ≤ length out → set out at v ≡ over out at (v ∷ [])
+unfolding over
+over-one out at v h = sets-eq (v ∷ []) out at h
+
+pub bytes-next : (out ws now : List ℕ) (i : ℕ) → now ≡ over out 0 (bytesOf ws i) → length now ≡ length out
+    → i < length out → set now i (byteOf ws i) ≡ over out 0 (bytesOf ws (i + 1))
+unfolding bytesOf
+bytes-next out ws now i e same h =
+    let place : i ≡ 0 + length (map (byteOf ws) (from 0 i)) =
+    omega (arith, length-map (from 0 i) (byteOf ws), length-from 0 i) in
+    over-then out 0 (map (byteOf ws) (from 0 i)) now i (byteOf ws i ∷ []) _ e
+    (over-one now i (byteOf ws i) (omega arith)) place (omega arith)
+    ∙ ap (over out 0) (rw (from-step, map-append, zero-add))
+
+pub ones-next : (ws : List ℕ) (i : ℕ) → i < length ws → onesOf (take (i + 1) ws) ≡ onesOf (take i ws) + ones (getD ws i 0)
+unfolding onesOf
+ones-next ws i h = rw (add-one, take-suc ws i 0 h, ones-append, add-zero)
