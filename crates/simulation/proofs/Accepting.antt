@@ -1,11 +1,10 @@
 -- The answer for a tree, from the stack that its nodes leave.
-use Prim.Native.Nat.{ℕ, _+_, _*_, _/_, _%_, _≤_, _<_}
+use Prim.Native.Nat.{ℕ, _/_, _≤_, _<_}
 use native.Mathlib.Omega.{arith}
 use mathlib.Core.Path.{_≡_, refl, sym, ap, _∙_}
 use mathlib.Core.List.{List, [], _∷_}
 use mathlib.Core.Bool.{Bool, true, false, _&&_}
-use lib.ListN.{length, take}
-use lib.Dec.{leb}
+use lib.ListN.{length}
 use borrow.Author.Tests.{le-leb, lt-leb}
 use Rattle.automaton.specs.Lists.{from, keep}
 use Rattle.automaton.specs.Bytes.{numbers}
@@ -24,7 +23,7 @@ use Rattle.automaton.specs.declared.refusal.Refusal.{Refusal}
 use Rattle.automaton.proofs.Fields.{length-numbers}
 use Rattle.automaton.proofs.Inversion.{refused≢found}
 use Rattle.automaton.proofs.Meaning.{Held}
-use Rattle.simulation.specs.Tree.{Tree, any, belongs, accepts}
+use Rattle.simulation.specs.Tree.{Tree, any, accepts}
 use Rattle.simulation.specs.Postfix.{pushAll, single, isTreeRecord, judgeTree}
 use Rattle.simulation.specs.Check.{acceptance}
 use Rattle.simulation.specs.Inner.{Holds, heightOf, Stacked, stackAcceptance, nodesAcceptance, treeAcceptance}

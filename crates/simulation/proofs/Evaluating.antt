@@ -1,12 +1,12 @@
 -- Reading nodes: what a node leaves on the stack, by the tests of `push`; and all nodes of a body.
-use Prim.Native.Nat.{ℕ, zero, suc, _+_, _-_, _*_, _≤_, _<_}
+use Prim.Native.Nat.{ℕ, _+_, _-_, _*_, _≤_, _<_}
 use native.Mathlib.Omega.{arith}
 use mathlib.Core.Path.{_≡_, refl, sym, ap, _∙_}
 use mathlib.Core.List.{List, [], _∷_, reverse}
-use mathlib.Core.Bool.{Bool, true, false}
+use mathlib.Core.Bool.{true}
 use lib.ListN.{length, take, drop, getD, length-drop}
 use lib.Seq.{length-take-le, getD-take}
-use lib.Dec.{leb, ltb, eqb}
+use lib.Dec.{ltb}
 use borrow.Author.Tests.{leb-true, le-leb, lt-leb, lt-ltb, le-ltb}
 use Rattle.automaton.specs.Lists.{from}
 use Rattle.automaton.specs.Automaton.{Rule}
@@ -17,7 +17,7 @@ use Rattle.automaton.specs.Inner.{over}
 use Rattle.automaton.proofs.Inversion.{refused≢found, checked}
 use Rattle.automaton.proofs.Fields.{numbers-step, numbers-end}
 use Rattle.automaton.specs.declared.refusal.Refusal.{Refusal}
-use Rattle.simulation.specs.Tree.{Tree, node, any, belongs}
+use Rattle.simulation.specs.Tree.{Tree, node, any}
 use Rattle.simulation.specs.Postfix.{treesIn, push, pushAll}
 use Rattle.simulation.specs.Words.{rulesIn}
 use Rattle.simulation.specs.Inner.{RowRanged, keyed, leadsTo, Holds, heightOf, Stacked}

@@ -1,14 +1,14 @@
 -- Document 01's examples B2 to B10 and B12, computed from the definitions, as one joint statement.
 use Prim.Native.Nat.{ℕ}
 use mathlib.Core.Path.{_≡_, refl}
-use mathlib.Core.List.{List, [], _∷_}
+use mathlib.Core.List.{[], _∷_}
 use mathlib.Core.Bool.{true, false}
 use lib.ListN.{length}
 use Rattle.automaton.specs.Lists.{from}
-use Rattle.automaton.specs.Automaton.{Rule, Automaton}
+use Rattle.automaton.specs.Automaton.{Automaton}
 use Rattle.automaton.specs.Bytes.{number2, number4, numbers, bytes2, bytes4, fields}
 use Rattle.automaton.specs.Record.{endOf, isWhole, opened, bodyIn, bodyOf, encodeRecord}
-use Rattle.automaton.specs.Read.{found, refused, _>>=_, _>>_, check}
+use Rattle.automaton.specs.Read.{refused, _>>=_, _>>_, check}
 use Rattle.automaton.proofs.Examples.{rule, T}
 use Rattle.simulation.specs.Tree.{Tree, node, nil, cons, any, belongs, accepts}
 use Rattle.simulation.specs.Postfix.{treesIn, push, pushAll, single, isTreeRecord, judgeTree}

@@ -1,8 +1,7 @@
 -- Where a simulation relates q to r, a tree that reaches q reaches r: each rule of its run is answered, root first.
-use Prim.Native.Nat.{ℕ, suc}
-use mathlib.Core.Path.{_≡_, refl, sym, ap, _∙_}
+use Prim.Native.Nat.{ℕ}
+use mathlib.Core.Path.{refl, sym, _∙_}
 use mathlib.Core.List.{List, [], _∷_, List·Memᴰ, List·Memᴰ·head, List·Memᴰ·tail}
-use lib.ListN.{length}
 use Rattle.automaton.specs.Automaton.{Rule}
 use Rattle.simulation.specs.Tree.{Tree, Trees, node, nil, cons}
 use Rattle.simulation.specs.Run.{RuleAt, Reaches}
@@ -19,10 +18,6 @@ pub each-compose :
     Each (λ (q r : ℕ). (s : ℕ) × D q s × E s r) qs rs
 each-compose none none = none
 each-compose (also d ds) (also e es) = also (_, d, e) (each-compose ds es)
-
-pub each-length : {D : ℕ → ℕ → Type 0} {qs rs : List ℕ} → Each D qs rs → length qs ≡ length rs
-each-length none = refl
-each-length (also d ds) = ap suc (each-length ds)
 
 pub each-refl : {D : ℕ → ℕ → Type 0} {qs : List ℕ} → ((q : ℕ) → List·Memᴰ q qs → D q q) → Each D qs qs
 each-refl {qs = []} f = none

@@ -1,4 +1,5 @@
 pub mod Search
+pub mod Ranges
 pub mod Runs
 pub mod Language
 pub mod Refinement
@@ -12,10 +13,10 @@ pub mod Targets
 pub mod Stacks
 pub mod Evaluating
 pub mod Accepting
+pub mod RelationWords
 pub mod Rows
 pub mod Walks
 pub mod Settling
-pub mod RelationWords
 pub mod Queries
 pub mod Theorems
 pub mod Examples

@@ -9,7 +9,7 @@ use lib.ListN.{length, length-append, length-map}
 use lib.Dec.{eqb}
 use borrow.Author.Tests.{eq-eqb, eqb-true}
 use Rattle.automaton.specs.Automaton.{Rule}
-use Rattle.simulation.specs.Simulation.{Each, none, also, Matched, Simulates, Relation, holds, keepPairs}
+use Rattle.simulation.specs.Simulation.{Each, Matched, Simulates, Relation, holds, keepPairs}
 use Rattle.simulation.specs.Simulation.{refine, allPairs, relationAt, rounds, relation}
 use Rattle.simulation.proofs.Search.{and-true-in}
 use Rattle.simulation.proofs.Refinement.{Within, related-member, member-related, pair-member, member-pair}

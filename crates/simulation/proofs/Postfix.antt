@@ -5,7 +5,7 @@ use native.Mathlib.Decide.{decLe}
 use mathlib.Core.Path.{_≡_, refl, sym, ap, ap₂, _∙_}
 use mathlib.Core.Logic.{_⊎_, inl, inr}
 use mathlib.Core.List.{List, [], _∷_, _++_, reverse, reverseAux, reverseAux-eq, reverse-reverse, reverse-cons, append-assoc, append-nil}
-use mathlib.Core.Bool.{Bool, true, false, false≢true}
+use mathlib.Core.Bool.{true, false, false≢true}
 use lib.ListN.{length, take, drop, getD, length-append, length-reverse, take-append-drop}
 use lib.Seq.{take-at, drop-at, drop-length, length-take-le}
 use lib.Dec.{leb, ltb, eqb}

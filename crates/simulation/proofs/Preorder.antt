@@ -1,15 +1,15 @@
 -- The simulation preorder of a well-formed automaton: its states are closed under its rules, so it is the largest downward
 -- simulation, reflexive and transitive.
-use Prim.Native.Nat.{ℕ, zero, suc, _+_, _*_, _-_, _≤_, _<_}
+use Prim.Native.Nat.{ℕ, _*_, _-_, _≤_, _<_}
 use native.Mathlib.Omega.{arith}
-use native.Mathlib.Decide.{ℕ-discrete}
-use mathlib.Core.Path.{_≡_, refl, ap, subst⁻¹}
-use mathlib.Core.List.{List, [], _∷_, List·Memᴰ, List·Memᴰ·head, List·Memᴰ·tail, List·Memᴰ·not-nil}
-use lib.ListN.{length}
-use Rattle.automaton.specs.Lists.{All, none, also, from}
-use Rattle.automaton.specs.Automaton.{Rule, Automaton, WellFormed, WellFormedRule}
+use mathlib.Core.Path.{subst⁻¹}
+use mathlib.Core.List.{List, List·Memᴰ, List·Memᴰ·head, List·Memᴰ·tail}
+use Rattle.automaton.specs.Lists.{All, also, from}
+use Rattle.automaton.specs.Automaton.{Automaton, WellFormed, WellFormedRule}
+use Rattle.automaton.proofs.WrittenBytes.{length-from}
 use Rattle.simulation.specs.Simulation.{Simulates}
 use Rattle.simulation.specs.Query.{simulationOf, roundsOf}
+use Rattle.simulation.proofs.Ranges.{from-member, member-from}
 use Rattle.simulation.proofs.Refinement.{Within}
 use Rattle.simulation.proofs.Maximality as maximality
 use Rattle.simulation.proofs.Maximality.{Closed}
@@ -17,24 +17,6 @@ use Rattle.simulation.proofs.Maximality.{Closed}
 pub all-member : {A : Type 0} {P : A → Type 0} {x : A} {xs : List A} → All P xs → List·Memᴰ x xs → P x
 all-member {P = P} (also p ps) (List·Memᴰ·head e) = subst⁻¹ P e p
 all-member (also p ps) (List·Memᴰ·tail m) = all-member ps m
-
-pub length-from : (i n : ℕ) → length (from i n) ≡ n
-unfolding from
-length-from i zero = refl
-length-from i (suc n) = ap suc (length-from (suc i) n)
-
-pub from-member : (n i q : ℕ) → i ≤ q → q < i + n → List·Memᴰ q (from i n)
-unfolding from
-from-member zero i q l h = absurd (omega arith)
-from-member (suc n) i q l h =
-    elim (ℕ-discrete q i)
-    [ yes e ↦ List·Memᴰ·head e | no d ↦ List·Memᴰ·tail (from-member n (suc i) q (omega arith) (omega arith)) ]
-
-pub member-from : (n i q : ℕ) → List·Memᴰ q (from i n) → (i ≤ q) × (q < i + n)
-unfolding from
-member-from zero i q m = absurd (List·Memᴰ·not-nil m)
-member-from (suc n) i q (List·Memᴰ·head e) = (omega arith, omega arith)
-member-from (suc n) i q (List·Memᴰ·tail m) = let h = member-from n (suc i) q m in (omega arith, omega arith)
 
 module _ (A : Automaton) (w : WellFormed A) where
   below-member : (q : ℕ) → q < A .states → List·Memᴰ q (from 0 (A .states))

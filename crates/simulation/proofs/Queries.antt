@@ -1,18 +1,18 @@
 -- The two queries: what their loops scan, the relation that a decoded table gives, and the answers.
-use Prim.Native.Nat.{ℕ, zero, suc, _+_, _-_, _*_, _≤_, _<_}
+use Prim.Native.Nat.{ℕ, suc, _+_, _-_, _*_, _≤_, _<_}
 use mathlib.Core.Path.{_≡_, refl, sym, ap, _∙_}
 use mathlib.Core.Logic.{_⊎_, inl, inr}
 use mathlib.Core.List.{List, [], _∷_, map}
 use mathlib.Core.Bool.{Bool, true, false, not, _&&_, _||_, true≢false}
-use native.Mathlib.Nat.{add-zero, zero-add}
+use native.Mathlib.Nat.{add-zero}
 use native.Mathlib.Numerals.{add-one}
 use native.Mathlib.Omega.{arith}
-use lib.ListN.{length, getD, take, drop, length-take, length-map}
-use lib.Seq.{drop-cons, getD-take, getD-drop}
+use lib.ListN.{length, getD, take, drop, length-map}
+use lib.Seq.{drop-cons}
 use lib.Dec.{eqb, ltb}
 use borrow.Author.Tests.{eq-eqb, ne-eqb, eqb-true, lt-ltb, le-ltb, not-false}
 use Rattle.automaton.specs.Lists.{from}
-use Rattle.automaton.specs.Automaton.{Rule, Automaton, WellFormed, WellFormedRule}
+use Rattle.automaton.specs.Automaton.{Rule, Automaton, WellFormed}
 use Rattle.automaton.specs.StateSet.{setOf}
 use Rattle.automaton.specs.Refusal.{numberOf}
 use Rattle.automaton.specs.Read.{Read, found, refused, _>>=_, _>>_, check, mapRead}
@@ -26,9 +26,8 @@ use Rattle.automaton.specs.declared.table.Size.{Size}
 use Rattle.automaton.specs.declared.table.Judged.the-variants as judged
 use Rattle.automaton.specs.declared.decoding.Decoded.{Decoded}
 use Rattle.automaton.proofs.Inversion.{refused≢found}
-use Rattle.automaton.proofs.Elements.{all-at}
 use Rattle.automaton.proofs.Meaning.{Held}
-use Rattle.automaton.proofs.WrittenBytes.{length-from, few-states, few-rules, row-fits, all-from, room-enough, room-short}
+use Rattle.automaton.proofs.WrittenBytes.{length-from, few-states, few-rules, room-enough, room-short}
 use Rattle.simulation.specs.Tree.{any}
 use Rattle.simulation.specs.Simulation.{Relation, related, paired, matches, matched, holds, every, relation, rounds}
 use Rattle.simulation.specs.Query.{simulationOf, roundsOf, relationBytes, relatedOf, relationQuery, relationAfter}
@@ -39,7 +38,9 @@ use Rattle.simulation.specs.Words.{statesIn, rulesIn, relationWords}
 use Rattle.simulation.specs.Inner.{RowRanged, StatesBelow, bytesOf, onesOf, firstFailing, firstUnmatched}
 use Rattle.simulation.proofs.RelationWords.{all-states-in, bytes-rows, ones-pairs}
 use Rattle.simulation.proofs.Pairs.{pairsIn, holds-related, relation-length}
-use Rattle.simulation.proofs.Preorder.{from-member, preorder-states}
+use Rattle.simulation.proofs.Ranges.{from-member}
+use Rattle.simulation.proofs.Ranged as ranged
+use Rattle.simulation.proofs.Preorder.{preorder-states}
 use Rattle.simulation.proofs.Search.{and-true-in, and-false-left, and-false-right, or-false-out}
 
 pub and-left : {s : Bool} (t : Bool) → s ≡ true → (s && t) ≡ t
@@ -86,11 +87,6 @@ paired-next R rows a b count j h la lb =
     let at-a : a + (j + 1) ≡ suc (a + j) = omega arith in
     let at-b : b + (j + 1) ≡ suc (b + j) = omega arith in
     rw (less, at-a, at-b, drop-cons rows (a + j) 0 (omega arith), drop-cons rows (b + j) 0 (omega arith))
-
-pub paired-end : (R : Relation) (rows : List ℕ) (a b count j : ℕ) → count ≤ j
-    → paired R (take (count - j) (drop (a + j) rows)) (take (count - j) (drop (b + j) rows)) ≡ true
-unfolding paired
-paired-end R rows a b count j h = let none : count - j ≡ 0 = omega arith in rw none
 
 -- Rules, one by one.
 
@@ -179,35 +175,7 @@ module _ (b : List ℕ) (size : Size) (finals ranks table : List ℕ) (held : He
   rules-are = ap (λ (A : Automaton). A .rules) (held .holds)
 
   pub rows-ranged : (i : ℕ) → i < size .rules → RowRanged ranks table i
-  unfolding automatonIn ruleAt
-  rows-ranged i h =
-      let fits = row-fits size finals ranks table well-formed i h in
-      let u : WellFormedRule (automatonIn size finals ranks table) (ruleAt ranks table i) =
-      rw zero-add at (all-from _ (ruleAt ranks table) 0 (size .rules) (well-formed .rules) i h) in
-      let symbol : ℕ = getD table (10 * i) 0 in
-      let rank : ℕ = getD ranks symbol 0 in
-      let known : symbol < length (take (size .symbols) ranks) = u .symbol in
-      let below : symbol < size .symbols = omega (arith, length-take (size .symbols) ranks) in
-      let arity : length (take rank (drop (10 * i + 2) table)) ≡ rank =
-      u .arity ∙ getD-take (size .symbols) ranks symbol 0 below in
-      let few = states-few in
-      let children : (j : ℕ) → j < rank → getD table (10 * i + 2 + j) 0 < 256 =
-      λ j l.
-      let low : getD (take rank (drop (10 * i + 2) table)) j 0 < size .states = all-at (u .children) j (omega arith) in
-      omega (arith, rw (getD-take rank (drop (10 * i + 2) table) j 0 l, getD-drop) at low) in
-      record {
-        symbol = fits .symbol;
-        rank = fits .rank;
-        states = λ j l. go children (u .target) j l;
-      }
-    where
-      go : ((j : ℕ) → j < getD ranks (getD table (10 * i) 0) 0 → getD table (10 * i + 2 + j) 0 < 256)
-          → getD table (10 * i + 1) 0 < size .states
-          → (j : ℕ) → j < 1 + getD ranks (getD table (10 * i) 0) 0 → getD table (10 * i + 1 + j) 0 < 256
-      go children target zero l = rw add-zero (omega (arith, states-few))
-      go children target (suc j) l =
-          let place : 10 * i + 1 + suc j ≡ 10 * i + 2 + j = omega arith in
-          rw place (children j (omega arith))
+  rows-ranged = ranged.rows-ranged size finals ranks table well-formed
 
   pub relation-is : relation (rulesIn ranks table (size .rules)) (statesIn (size .states) (setOf (from 0 (size .states))))
       ≡ simulationOf (held .automaton)

@@ -1,12 +1,12 @@
 -- The rows of a well-formed decoded table are in range.
-use Prim.Native.Nat.{ℕ, zero, suc, _+_, _*_, _≤_, _<_}
+use Prim.Native.Nat.{ℕ, zero, suc, _+_, _*_, _<_}
 use native.Mathlib.Nat.{zero-add, add-zero}
 use native.Mathlib.Omega.{arith}
 use mathlib.Core.Path.{_≡_, _∙_}
 use mathlib.Core.List.{List}
 use lib.ListN.{length, take, drop, getD, length-take}
 use lib.Seq.{getD-take, getD-drop}
-use Rattle.automaton.specs.Automaton.{Rule, Automaton, WellFormed, WellFormedRule}
+use Rattle.automaton.specs.Automaton.{WellFormed, WellFormedRule}
 use Rattle.automaton.specs.Decoded.{ruleAt, automatonIn}
 use Rattle.automaton.specs.declared.table.Size.{Size}
 use Rattle.automaton.proofs.Elements.{all-at}
@@ -41,3 +41,15 @@ module _ (size : Size) (finals ranks rows : List ℕ) (wf : WellFormed (automato
   rows-ranged i h =
       let f = row-fits size finals ranks rows wf i h in
       record { symbol = f .symbol; rank = f .rank; states = states-low i h }
+
+-- The numbers of a row in range.
+module _ (ranks rows : List ℕ) (i : ℕ) (ranged : RowRanged ranks rows i) where
+  pub child-low : (key : ℕ) → getD rows (10 * i + 0) 0 ≡ key → (j : ℕ) → j < getD ranks key 0
+      → getD rows (10 * i + 2 + j) 0 < 256
+  child-low key e j h =
+      let s : getD rows (10 * i) 0 ≡ key = rw add-zero at e in
+      let n : 10 * i + 1 + (1 + j) ≡ 10 * i + 2 + j = omega arith in
+      rw n at (ranged .states (1 + j) (rw s (omega arith)))
+
+  pub target-low : getD rows (10 * i + 1) 0 < 256
+  target-low = rw add-zero at (ranged .states 0 (omega arith))

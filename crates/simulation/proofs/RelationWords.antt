@@ -13,85 +13,22 @@ use lib.Bits.{bitOr, or-lt}
 use lib.Pow.{pow-lt, mod-pow-add, shr-shr, shr-lt}
 use lib.Count.{ones, ones-step}
 use borrow.Author.Tests.{eqb-true, eqb-false}
-use Rattle.automaton.specs.Lists.{All, none, also, Rising, empty, single, step, from, keep}
+use Rattle.automaton.specs.Lists.{none, from, keep}
 use Rattle.automaton.specs.StateSet.{member, words, emptySet, replaced, withState, withAll, setOf}
 use Rattle.automaton.specs.Inner.{over}
-use Rattle.automaton.proofs.StateSets.{words-getD, bit, bit-suc, elem, elem-above}
+use Rattle.automaton.proofs.StateSets.{words-getD, bit, bit-suc}
 use Rattle.automaton.proofs.StateSets.{member-setOf, length-setOf, states-of-set}
 use Rattle.automaton.proofs.WrittenBytes.{from-step, length-from, keep-append, over-then}
 use Rattle.simulation.specs.Simulation.{Relation, related}
 use Rattle.simulation.specs.Query.{bitsFrom, rowBytes, relationRows}
 use Rattle.simulation.specs.Words.{statesIn, rowWords, rowsWords, relationWords}
 use Rattle.simulation.specs.Inner.{byteOf, bytesOf, onesOf}
+use Rattle.simulation.proofs.Ranges.{from-append, from-low, from-rising, keep-none, elem-keep}
 use Rattle.simulation.proofs.Pairs.{pairsIn}
-
--- Ranges.
-
-pub from-append : (i a b : ℕ) → from i (a + b) ≡ from i a ++ from (i + a) b
-unfolding from
-from-append i zero b = rw (zero-add, add-zero)
-from-append i (suc a) b = rw (suc-add, add-suc, ← suc-add) (ap (λ (l : List ℕ). i ∷ l) (from-append (suc i) a b))
-
-pub from-low : (i n k : ℕ) → i + n ≤ k → All (λ (q : ℕ). q < k) (from i n)
-unfolding from
-from-low i zero k h = none
-from-low i (suc n) k h = also {x = i} (omega arith) (from-low (suc i) n k (omega arith))
-
-pub from-rising : (i n : ℕ) → Rising (from i n)
-unfolding from
-from-rising i zero = empty
-from-rising i (suc zero) = single
-from-rising i (suc (suc n)) = step {a = i} {b = suc i} (omega arith) (from-rising (suc i) (suc n))
 
 pub all-states-in : (n : ℕ) → n ≤ 256 → statesIn n (setOf (from 0 n)) ≡ from 0 n
 unfolding statesIn
 all-states-in n h = states-of-set (from 0 n) n h (from-low 0 n n (omega arith)) (from-rising 0 n)
-
-pub keep-low : (test : ℕ → Bool) (k : ℕ) {qs : List ℕ} → All (λ (q : ℕ). q < k) qs → All (λ (q : ℕ). q < k) (keep test qs)
-unfolding keep
-keep-low test k none = none
-keep-low test k (also {x = q} {xs = qs} p ps) = go (test q) (keep-low test k ps)
-  where
-    go : (t : Bool) → All (λ (q : ℕ). q < k) (keep test qs)
-        → All (λ (q : ℕ). q < k) (cond t (q ∷ keep test qs) (keep test qs))
-    go true ps = also p ps
-    go false ps = ps
-
-pub keep-high : (test : ℕ → Bool) (i n k : ℕ) → k < i → All (λ (q : ℕ). k < q) (keep test (from i n))
-unfolding keep from
-keep-high test i zero k h = none
-keep-high test i (suc n) k h = go (test i) (keep-high test (suc i) n k (omega arith))
-  where
-    go : (t : Bool) → All (λ (q : ℕ). k < q) (keep test (from (suc i) n))
-        → All (λ (q : ℕ). k < q) (cond t (i ∷ keep test (from (suc i) n)) (keep test (from (suc i) n)))
-    go true ps = also h ps
-    go false ps = ps
-
-pub keep-none : (test : ℕ → Bool) (i n : ℕ) → ((r : ℕ) → i ≤ r → test r ≡ false) → keep test (from i n) ≡ []
-unfolding keep from
-keep-none test i zero h = refl
-keep-none test i (suc n) h = rw (h i (omega arith)) (keep-none test (suc i) n (λ r l. h r (omega arith)))
-
-pub elem-keep : (test : ℕ → Bool) (i n r : ℕ) → i ≤ r → r < i + n → elem r (keep test (from i n)) ≡ test r
-unfolding keep from elem
-elem-keep test i zero r l h = absurd (omega arith)
-elem-keep test i (suc n) r l h = go (eqb r i) refl (test i) refl (elem-keep test (suc i) n r)
-  where
-    rest : List ℕ
-    rest = keep test (from (suc i) n)
-
-    go : (s : Bool) → eqb r i ≡ s → (t : Bool) → test i ≡ t → (suc i ≤ r → r < suc i + n → elem r rest ≡ test r)
-        → elem r (cond t (i ∷ rest) rest) ≡ test r
-    go true e true f later = rw e (sym (ap test (eqb-true r i e) ∙ f))
-    go true e false f later =
-        let same : r ≡ i = eqb-true r i e in
-        elem-above r (keep-high test (suc i) n r (omega arith)) ∙ sym (ap test same ∙ f)
-    go false e true f later =
-        let other : r ≡ i → ⊥ = eqb-false r i e in
-        rw e (later (omega arith) (omega arith))
-    go false e false f later =
-        let other : r ≡ i → ⊥ = eqb-false r i e in
-        later (omega arith) (omega arith)
 
 -- The words of a set fit 64 bits.
 
@@ -302,7 +239,7 @@ module _ (R : Relation) where
   narrowed (q ∷ qs) n h low =
       let all : n + (256 - n) ≡ 256 = omega arith in
       let few : length (keep (related R q) (from 0 256)) ≡ length (keep (related R q) (from 0 n)) + 0 =
-      rw (all, zero-add, keep-none (related R q) n (256 - n) (λ r l. low q r l))
+      rw (all, zero-add, keep-none (related R q) n (256 - n) (λ r l b. low q r l))
       at (length-keep-append (related R q) 0 n (256 - n)) in
       rw (few, add-zero, narrowed qs n h low)
 

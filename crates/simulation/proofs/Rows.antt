@@ -5,87 +5,25 @@ use native.Mathlib.Omega.{arith}
 use mathlib.Core.Path.{_≡_, refl, sym, ap, ap₂, _∙_}
 use mathlib.Core.Logic.{_⊎_, inl, inr}
 use mathlib.Core.List.{List, [], _∷_, _++_, map, List·Memᴰ, List·Memᴰ·head, List·Memᴰ·tail}
-use mathlib.Core.List.{List·Memᴰ·not-nil, List·Memᴰ·cases-cons}
 use mathlib.Core.Bool.{Bool, true, false, cond, _&&_, _||_, and-false}
-use lib.ListN.{length, getD, set, length-append, List·getD-append}
+use lib.ListN.{length, getD, set, List·getD-append}
 use lib.Seq.{getD-append-add, getD-set-same, getD-set-other, ext-getD}
 use lib.Bits.{bitOr, or-lt}
 use lib.Pow.{pow-lt}
 use lib.Dec.{eqb, ltb}
-use borrow.Author.Tests.{eq-eqb, ne-eqb, eqb-true, eqb-false, ltb-true, ltb-false, lt-ltb, le-ltb}
-use Rattle.automaton.specs.Lists.{All, none, also, from, keep}
+use borrow.Author.Tests.{eqb-true, eqb-false, ltb-true, ltb-false, lt-ltb, le-ltb}
+use Rattle.automaton.specs.Lists.{from, keep}
 use Rattle.automaton.specs.Automaton.{Rule}
 use Rattle.automaton.specs.StateSet.{member, words, emptySet, replaced, withState, withAll, setOf}
-use Rattle.automaton.proofs.Elements.{all-map}
-use Rattle.automaton.proofs.StateSets.{below-four, elem, member-with, member-setOf, length-setOf, same-members}
+use Rattle.automaton.proofs.StateSets.{below-four, member-with, member-setOf, length-setOf, same-members}
 use Rattle.simulation.specs.Simulation.{Relation, related, holds, keepPairs, refine, allPairs}
 use Rattle.simulation.specs.Words.{statesIn, rowWords, rowsWords}
 use Rattle.simulation.specs.Inner.{Has, relationIn}
+use Rattle.simulation.proofs.Ranges.{from-member, member-from, keep-none, elem-keep}
 use Rattle.simulation.proofs.Refinement.{member-related, pair-member, member-pair, keep-related, refine-related}
 use Rattle.simulation.proofs.Maximality.{keep-append}
 
--- Ranges.
-
-pub from-member : (i n : ℕ) {r : ℕ} → i ≤ r → r < i + n → List·Memᴰ r (from i n)
-unfolding from
-from-member i zero a b = absurd (omega arith)
-from-member i (suc n) {r} a b = go (eq-or-lt-of-le a) (from-member (suc i) n)
-  where
-    go : (i ≡ r) ⊎ (i < r) → (suc i ≤ r → r < suc i + n → List·Memᴰ r (from (suc i) n)) → List·Memᴰ r (i ∷ from (suc i) n)
-    go (inl e) later = List·Memᴰ·head (sym e)
-    go (inr l) later = List·Memᴰ·tail (later l (omega arith))
-
-pub member-from : (i n : ℕ) {r : ℕ} → List·Memᴰ r (from i n) → r < i + n
-unfolding from
-member-from i zero m = absurd (List·Memᴰ·not-nil m)
-member-from i (suc n) {r} m = go (List·Memᴰ·cases-cons m) (member-from (suc i) n)
-  where
-    go : (r ≡ i) ⊎ List·Memᴰ r (from (suc i) n) → (List·Memᴰ r (from (suc i) n) → r < suc i + n) → r < i + suc n
-    go (inl e) later = omega arith
-    go (inr m) later = let l = later m in omega arith
-
 -- The elements of a range that pass a test.
-
-pub keep-below : (test : ℕ → Bool) (i n : ℕ) → All (λ (j : ℕ). j < i + n) (keep test (from i n))
-unfolding keep from
-keep-below test i zero = none
-keep-below test i (suc n) = go (test i) (all-map (λ j h. omega arith) (keep-below test (suc i) n))
-  where
-    go : (t : Bool) → All (λ (j : ℕ). j < i + suc n) (keep test (from (suc i) n))
-        → All (λ (j : ℕ). j < i + suc n) (cond t (i ∷ keep test (from (suc i) n)) (keep test (from (suc i) n)))
-    go true rest = also {x = i} (omega arith) rest
-    go false rest = rest
-
-elem-low : (test : ℕ → Bool) (i n r : ℕ) → r < i → elem r (keep test (from i n)) ≡ false
-unfolding elem keep from
-elem-low test i zero r h = refl
-elem-low test i (suc n) r h = go (test i) (elem-low test (suc i) n r (omega arith))
-  where
-    go : (t : Bool) → elem r (keep test (from (suc i) n)) ≡ false
-        → elem r (cond t (i ∷ keep test (from (suc i) n)) (keep test (from (suc i) n))) ≡ false
-    go true e = rw (ne-eqb r i (λ p. omega arith)) e
-    go false e = e
-
-pub elem-keep : (test : ℕ → Bool) (i n r : ℕ) → i ≤ r → r < i + n → elem r (keep test (from i n)) ≡ test r
-unfolding elem keep from
-elem-keep test i zero r a b = absurd (omega arith)
-elem-keep test i (suc n) r a b = go (eq-or-lt-of-le a) (test i) refl (elem-keep test (suc i) n r)
-  where
-    rest : List ℕ
-    rest = keep test (from (suc i) n)
-
-    go : (i ≡ r) ⊎ (i < r) → (t : Bool) → test i ≡ t → (suc i ≤ r → r < suc i + n → elem r rest ≡ test r)
-        → elem r (cond t (i ∷ rest) rest) ≡ test r
-    go (inl e) true p later = rw (eq-eqb r i (sym e)) (sym p ∙ ap test e)
-    go (inl e) false p later = elem-low test (suc i) n r (omega arith) ∙ sym p ∙ ap test e
-    go (inr l) true p later = rw (ne-eqb r i (λ q. omega arith)) (later l (omega arith))
-    go (inr l) false p later = later l (omega arith)
-
-keep-none : (f : ℕ → Bool) (i n : ℕ) → ((r : ℕ) → i ≤ r → r < i + n → f r ≡ false) → keep f (from i n) ≡ []
-unfolding keep from
-keep-none f i zero h = refl
-keep-none f i (suc n) h =
-    rw (h i (omega arith) (omega arith)) (keep-none f (suc i) n (λ r a b. h r (omega arith) (omega arith)))
 
 keep-front : (f g : ℕ → Bool) (i n m : ℕ) → ((r : ℕ) → i ≤ r → r < i + n → f r ≡ g r)
     → ((r : ℕ) → i + n ≤ r → r < i + n + m → f r ≡ false) → keep f (from i (n + m)) ≡ keep g (from i n)
@@ -171,8 +109,8 @@ module _ (f g : ℕ → Bool) where
 all-below : (p : ℕ × ℕ) → List·Memᴰ p (allPairs (from 0 256) (from 0 256)) → (p .0 < 256) × (p .1 < 256)
 all-below p m =
     let s = member-pair (from 0 256) (from 0 256) m in
-    let a = member-from 0 256 (s .0) in
-    let b = member-from 0 256 (s .1) in
+    let a = member-from 256 0 _ (s .0) in
+    let b = member-from 256 0 _ (s .1) in
     (omega arith, omega arith)
 
 pub related-in : (matrix : List (List ℕ)) (q r : ℕ) → q < 256 → r < 256
@@ -180,8 +118,8 @@ pub related-in : (matrix : List (List ℕ)) (q r : ℕ) → q < 256 → r < 256
 unfolding relationIn
 related-in matrix q r a b =
     keep-related (λ (p : ℕ × ℕ). member (getD matrix (p .0) []) (p .1)) (allPairs (from 0 256) (from 0 256)) q r
-    ∙ rw (member-related (pair-member (from-member 0 256 {r = q} (omega arith) (omega arith))
-    (from-member 0 256 {r = r} (omega arith) (omega arith))))
+    ∙ rw (member-related (pair-member (from-member 256 0 q (omega arith) (omega arith))
+    (from-member 256 0 r (omega arith) (omega arith))))
 
 pub relation-is : (matrix : List (List ℕ)) (test : ℕ × ℕ → Bool)
     → ((q : ℕ) → q < 256 → Has (getD matrix q []) (λ (r : ℕ). test (q, r)))
@@ -258,12 +196,6 @@ row-words matrix q h four small =
     same-members (setOf kept) (getD matrix q []) (length-setOf kept) four (bounded-setOf kept) small
     (λ r l. member-setOf kept r l
     ∙ elem-keep (related R q) 0 256 r (omega arith) (omega arith) ∙ related-in matrix q r h l)
-
-pub length-rows : (R : Relation) (i n : ℕ) → length (rowsWords R (from i n)) ≡ 4 * n
-unfolding rowsWords rowWords from
-length-rows R i zero = refl
-length-rows R i (suc n) =
-    simp (length-append, length-setOf) (omega (arith, length-rows R (suc i) n))
 
 pub getD-rows : (R : Relation) (i n j : ℕ) → j < 4 * n
     → getD (rowsWords R (from i n)) j 0 ≡ getD (rowWords R (i + j / 4)) (j % 4) 0

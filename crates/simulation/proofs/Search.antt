@@ -15,10 +15,6 @@ and-true-out false t h = absurd (false≢true h)
 pub and-true-in : {s t : Bool} → s ≡ true → t ≡ true → (s && t) ≡ true
 and-true-in h k = rw (h, k)
 
-pub and-false-out : (s t : Bool) → (s && t) ≡ false → (s ≡ false) ⊎ (t ≡ false)
-and-false-out true t h = inr h
-and-false-out false t h = inl refl
-
 pub and-false-left : {s : Bool} (t : Bool) → s ≡ false → (s && t) ≡ false
 and-false-left t h = rw h
 
@@ -51,11 +47,6 @@ pub record Found {A : Type 0} (test : A → Bool) (xs : List A) : Type 0 where
   pub member : List·Memᴰ element xs
   pub passes : test element ≡ true
 
-pub record Missed {A : Type 0} (test : A → Bool) (xs : List A) : Type 0 where
-  pub element : A
-  pub member : List·Memᴰ element xs
-  pub fails : test element ≡ false
-
 module _ {A : Type 0} (test : A → Bool) where
   pub any-in : {x : A} {xs : List A} → List·Memᴰ x xs → test x ≡ true → any test xs ≡ true
   unfolding any
@@ -72,11 +63,6 @@ module _ {A : Type 0} (test : A → Bool) where
       first (inr p) later =
           let f = later p in record { element = f .element; member = List·Memᴰ·tail (f .member); passes = f .passes }
 
-  pub any-none : {xs : List A} → any test xs ≡ false → (x : A) → List·Memᴰ x xs → test x ≡ false
-  unfolding any
-  any-none h x (List·Memᴰ·head {xs = xs} e) = ap test e ∙ or-false-out _ (any test xs) h .0
-  any-none h x (List·Memᴰ·tail {x = y} {xs = xs} m) = any-none (or-false-out (test y) (any test xs) h .1) x m
-
   pub every-in : (xs : List A) → ((x : A) → List·Memᴰ x xs → test x ≡ true) → every test xs ≡ true
   unfolding every
   every-in [] f = refl
@@ -87,14 +73,3 @@ module _ {A : Type 0} (test : A → Bool) where
   unfolding every
   every-out h x (List·Memᴰ·head {xs = xs} e) = ap test e ∙ and-true-out _ (every test xs) h .0
   every-out h x (List·Memᴰ·tail {x = y} {xs = xs} m) = every-out (and-true-out (test y) (every test xs) h .1) x m
-
-  pub every-not : (xs : List A) → every test xs ≡ false → Missed test xs
-  unfolding every
-  every-not [] h = absurd (true≢false h)
-  every-not (x ∷ xs) h = first (and-false-out (test x) (every test xs) h) (every-not xs)
-    where
-      first :
-          (test x ≡ false) ⊎ (every test xs ≡ false) → (every test xs ≡ false → Missed test xs) → Missed test (x ∷ xs)
-      first (inl p) later = record { element = x; member = List·Memᴰ·head refl; fails = p }
-      first (inr p) later =
-          let f = later p in record { element = f .element; member = List·Memᴰ·tail (f .member); fails = f .fails }

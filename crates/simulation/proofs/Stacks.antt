@@ -1,6 +1,6 @@
 -- A stack of trees and its words: the entries, the children of a node among them, and a node's own set.
-use Prim.Native.Nat.{ℕ, zero, suc, _+_, _-_, _*_, _/_, _%_, _≤_, _<_, min}
-use native.Mathlib.Nat.{add-zero, add-suc, suc-add}
+use Prim.Native.Nat.{ℕ, zero, suc, _+_, _-_, _*_, _/_, _≤_, _<_}
+use native.Mathlib.Nat.{add-zero}
 use native.Mathlib.Numerals.{add-one, add-two, add-three}
 use native.Mathlib.Omega.{arith}
 use mathlib.Core.Path.{_≡_, refl, sym, ap, ap₂, _∙_}
@@ -9,14 +9,14 @@ use mathlib.Core.Bool.{Bool, true, false, cond, _&&_, _||_, and-true, and-false,
 use lib.ListN.{length, take, drop, getD, set, length-take, length-drop, drop-of-length-le, List·getD-append}
 use lib.Seq.{drop-cons, take-suc, getD-drop, getD-take, sets-eq, take-length, take-all, length-take-le, getD-append-add}
 use lib.Dec.{eqb}
-use borrow.Author.Tests.{eqb-true, eqb-false, eq-eqb, ne-eqb}
+use borrow.Author.Tests.{eqb-true}
 use Rattle.automaton.specs.Lists.{from, keep}
 use Rattle.automaton.specs.Automaton.{Rule}
 use Rattle.automaton.specs.StateSet.{member, words}
 use Rattle.automaton.specs.Decoded.{ruleAt}
 use Rattle.automaton.specs.Inner.{over}
 use Rattle.automaton.proofs.StateSets.{words-getD}
-use Rattle.simulation.specs.Tree.{Tree, Trees, node, nil, cons, any, belongs, belongInOrder}
+use Rattle.simulation.specs.Tree.{Tree, node, any, belongs, belongInOrder}
 use Rattle.simulation.specs.Postfix.{treesIn}
 use Rattle.simulation.specs.Words.{rulesIn}
 use Rattle.simulation.specs.Inner.{RowRanged, keyed, inOrder, leadsTo, Holds}
@@ -157,7 +157,7 @@ module _ (rules : List Rule) (stack : List ℕ) where
 
 -- Searches.
 
-any-map : {A B : Type 0} (test : B → Bool) (f : A → B) (xs : List A) → any test (map f xs) ≡ any (λ (x : A). test (f x)) xs
+pub any-map : {A B : Type 0} (test : B → Bool) (f : A → B) (xs : List A) → any test (map f xs) ≡ any (λ (x : A). test (f x)) xs
 unfolding any
 any-map test f [] = refl
 any-map test f (x ∷ xs) = ap (λ (t : Bool). test (f x) || t) (any-map test f xs)

@@ -1,17 +1,18 @@
 -- Following the chain of a symbol: the states found so far, and those that the rules from a number on still lead to.
-use Prim.Native.Nat.{ℕ, suc, _+_, _-_, _*_, _%_, _≤_, _<_}
+use Prim.Native.Nat.{ℕ, _+_, _-_, _*_, _%_, _≤_, _<_}
 use native.Mathlib.Nat.{add-zero, sub-zero}
 use native.Mathlib.Omega.{arith}
-use mathlib.Core.Path.{_≡_, refl, sym, ap, ap₂, _∙_}
-use mathlib.Core.List.{List, [], _∷_}
-use mathlib.Core.Bool.{Bool, true, false, _&&_, _||_, and-true, and-false, or-false, or-comm, or-assoc}
-use lib.ListN.{length, take, drop, getD}
+use mathlib.Core.Path.{_≡_, refl, sym, ap, _∙_}
+use mathlib.Core.List.{List}
+use mathlib.Core.Bool.{Bool, true, false, _&&_, _||_, or-false}
+use lib.ListN.{take, drop, getD}
 use lib.Dec.{eqb}
 use Rattle.automaton.specs.StateSet.{member, emptySet, withState}
 use Rattle.automaton.specs.Decoded.{ruleAt}
 use Rattle.automaton.proofs.StateSets.{member-empty, member-with, same-test}
 use Rattle.simulation.specs.Tree.{any}
-use Rattle.simulation.specs.Inner.{RowRanged, keyed, Chain, Chains, Indexed, inOrder, leadsTo}
+use Rattle.simulation.specs.Inner.{RowRanged, keyed, Chain, Chains, inOrder, leadsTo}
+use Rattle.simulation.proofs.Ranged as numbers
 use Rattle.simulation.proofs.Chains.{chain-none, Turn, chain-turn, link-ahead}
 
 none-more : (a b c : Bool) → ((a && false || b) || c) ≡ (b || c)
@@ -66,13 +67,10 @@ module _ (k : ℕ) (ranks rows next : List ℕ) (symbol : ℕ) (stack : List ℕ
       rank-small = rw has-symbol at (row .rank)
 
       pub target-low : getD rows (10 * (l - 1) + 1) 0 < 256
-      target-low = rw add-zero at (row .states 0 (omega arith))
+      target-low = numbers.target-low ranks rows (l - 1) row
 
       pub child-low : (j : ℕ) → j < getD ranks symbol 0 → getD rows (10 * (l - 1) + 2 + j) 0 < 256
-      child-low j h =
-          let place : 10 * (l - 1) + 2 + j ≡ 10 * (l - 1) + 1 + (1 + j) = omega arith in
-          let rank : getD ranks (getD rows (10 * (l - 1)) 0) 0 ≡ getD ranks symbol 0 = ap (λ (x : ℕ). getD ranks x 0) has-symbol in
-          rw place (row .states (1 + j) (omega arith))
+      child-low = numbers.child-low ranks rows (l - 1) row symbol (turn .has-key)
 
       pub links-fewer : (1025 - getD next (l - 1) 0) % 1025 < (1025 - l) % 1025
       links-fewer =

@@ -1,13 +1,13 @@
 -- What holds of checking and of the simulation, stated over the definitions of specs/ alone.
 use Prim.Native.Nat.{ℕ, suc, _*_, _-_, _≤_, _<_}
-use mathlib.Core.Path.{_≡_, refl, sym, ap, _∙_}
+use mathlib.Core.Path.{_≡_, ap, _∙_}
 use mathlib.Core.Logic.{_⊎_, _↔_}
 use mathlib.Core.List.{List}
 use mathlib.Core.Bool.{true}
 use lib.ListN.{length, getD}
 use Rattle.automaton.specs.Lists.{from}
 use Rattle.automaton.specs.Automaton.{Automaton, WellFormed}
-use Rattle.automaton.specs.Read.{Read, found, refused, _>>=_}
+use Rattle.automaton.specs.Read.{found, refused, _>>=_}
 use Rattle.automaton.specs.Table.{judge}
 use Rattle.simulation.specs.Tree.{Tree, Over, belongs, accepts}
 use Rattle.simulation.specs.Run.{Reaches, Accepts}

@@ -20,7 +20,8 @@ use Rattle.automaton.proofs.Elements.{all-map}
 use Rattle.simulation.specs.Tree.{any}
 use Rattle.simulation.specs.Simulation.{Relation, related, paired, matches, every, matched, holds, refine}
 use Rattle.simulation.specs.Words.{rulesIn}
-use Rattle.simulation.specs.Inner.{RowRanged, keyed, Chain, end, link, Chains, Has, childrenAt}
+use Rattle.simulation.specs.Inner.{keyed, Chain, end, link, Chains, Has, childrenAt}
+use Rattle.simulation.proofs.Stacks.{any-map}
 use Rattle.simulation.proofs.Search.{and-true-out}
 use Rattle.simulation.proofs.Refinement.{refine-related}
 
@@ -46,11 +47,6 @@ every-keep t g (x ∷ xs) = go (t x) (every-keep t g xs)
         → ((not s || g x) && every (λ (x : ℕ). not (t x) || g x) xs) ≡ every g (cond s (x ∷ keep t xs) (keep t xs))
     go true e = rw e
     go false e = e
-
-any-map : {A : Type 0} (f : A → Bool) (g : ℕ → A) (xs : List ℕ) → any f (map g xs) ≡ any (λ (x : ℕ). f (g x)) xs
-unfolding any
-any-map f g [] = refl
-any-map f g (x ∷ xs) = ap (λ (t : Bool). f (g x) || t) (any-map f g xs)
 
 every-map : {A : Type 0} (f : A → Bool) (g : ℕ → A) (xs : List ℕ) → every f (map g xs) ≡ every (λ (x : ℕ). f (g x)) xs
 unfolding every
@@ -169,18 +165,6 @@ walk-low next P l k w low = go (eq-zero-or-pos l)
     go : (l ≡ 0) ⊎ (0 < l) → l ≤ k
     go (inl z) = omega arith
     go (inr h) = omega (arith, low (l - 1) (turn next P l w h .first))
-
--- The numbers of a row in range.
-module _ (ranks rows : List ℕ) (i : ℕ) (ranged : RowRanged ranks rows i) where
-  pub child-low : (key : ℕ) → getD rows (10 * i + 0) 0 ≡ key → (j : ℕ) → j < getD ranks key 0
-      → getD rows (10 * i + 2 + j) 0 < 256
-  child-low key e j h =
-      let s : getD rows (10 * i) 0 ≡ key = rw add-zero at e in
-      let n : 10 * i + 1 + (1 + j) ≡ 10 * i + 2 + j = omega arith in
-      rw n at (ranged .states (1 + j) (rw s (omega arith)))
-
-  pub target-low : getD rows (10 * i + 1) 0 < 256
-  target-low = rw add-zero at (ranged .states 0 (omega arith))
 
 -- The children from position j on.
 module _ (rows : List ℕ) (rank j : ℕ) (h : j < rank) where

@@ -10,7 +10,8 @@ use Rattle.simulation.specs.Simulation.{Relation, paired}
 use Rattle.simulation.specs.Words.{relationWords}
 use Rattle.simulation.specs.Inner.{StatesBelow}
 use Rattle.simulation.proofs.Search.{and-false-left}
-use Rattle.simulation.proofs.Queries.{and-left, paired-next, paired-end}
+use Rattle.simulation.proofs.Queries.{and-left, paired-next}
+use Rattle.simulation.proofs.Walks.{paired-end}
 use Rattle.simulation.proofs.query.children_paired.Statement.{statement}
 use Rattle.simulation.proofs.query.children_paired.Tie as tie
 
@@ -70,7 +71,7 @@ returns-2 c = λ R e.
     let args = turn .before .before .args in
     sym
     (turn .loop .inv .1 R e
-    ∙ paired-end R (args .rows .now) (args .a) (args .b) (args .count) (turn .loop .j) (omega arith))
+    ∙ paired-end R (args .count) (turn .loop .j) _ _ (omega arith))
 
 pub children-paired-spec : {M : Type 1} → statement M
 children-paired-spec =

@@ -9,7 +9,8 @@ use mir.Syntax.{w64}
 use mir.Val.{Fits}
 use Rattle.simulation.specs.Words.{relationWords}
 use Rattle.simulation.specs.Inner.{relationIn}
-use Rattle.simulation.proofs.Rows.{filled-more, row-words, length-rows, getD-rows}
+use Rattle.simulation.proofs.Rows.{filled-more, row-words, getD-rows}
+use Rattle.simulation.proofs.RelationWords.{length-rows}
 use Rattle.simulation.proofs.rounds.flatten.Statement.{statement}
 use Rattle.simulation.proofs.rounds.flatten.Tie as tie
 

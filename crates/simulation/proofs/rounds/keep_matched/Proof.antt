@@ -6,7 +6,8 @@ use Prim.Native.Nat.{ℕ, _-_, _*_, _≤_}
 use mathlib.Core.Path.{ap}
 use lib.ListN.{getD}
 use Rattle.simulation.specs.Inner.{RowRanged, relationIn}
-use Rattle.simulation.proofs.Walks.{linksLeft, Turn, turn, walk-from, walk-less, walk-low, child-low, target-low}
+use Rattle.simulation.proofs.Walks.{linksLeft, Turn, turn, walk-from, walk-less, walk-low}
+use Rattle.simulation.proofs.Ranged.{child-low, target-low}
 use Rattle.simulation.proofs.Walks.{Keyed, Kept, kept-none, kept-next, kept-all}
 use Rattle.simulation.proofs.rounds.keep_matched.Statement.{statement}
 use Rattle.simulation.proofs.rounds.keep_matched.Tie as tie

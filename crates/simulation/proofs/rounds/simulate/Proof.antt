@@ -4,7 +4,7 @@ use native.Mathlib.Omega.{arith}
 use native.Mathlib.Nat.{add-zero}
 use mathlib.Core.Path.{_≡_}
 use lib.ListN.{length}
-use Rattle.simulation.proofs.Walks.{target-low}
+use Rattle.simulation.proofs.Ranged.{target-low}
 use Rattle.simulation.proofs.rounds.simulate.Statement.{statement}
 use Rattle.simulation.proofs.rounds.simulate.Tie as tie
 
