@@ -1,4 +1,5 @@
--- What only the contracts of inner functions cite; the meaning of the public calls needs none of it.
+-- What only the contracts of inner functions, and the `requires` of the inner call `simulate`, cite; the meaning of the public calls
+-- needs none of it.
 use Prim.Native.Nat.{ℕ, zero, suc, _+_, _*_, _/_, _%_, _^_, _≤_, _<_}
 use mathlib.Core.Path.{_≡_}
 use mathlib.Core.List.{List, [], _∷_, map}

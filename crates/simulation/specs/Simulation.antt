@@ -81,6 +81,6 @@ settle rules (suc fuel) j R =
 unfoldable pub rounds : List Rule → List ℕ → ℕ
 rounds rules states = settle rules (length (allPairs states states)) 0 (allPairs states states)
 
--- The relation is Rj at that j. The rules of these states name no other states.
+-- The relation is Rj at that j. It is meant for rules that name no other states than these.
 unfoldable pub relation : List Rule → List ℕ → Relation
 relation rules states = relationAt rules states (rounds rules states)
