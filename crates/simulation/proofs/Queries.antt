@@ -31,7 +31,7 @@ use Rattle.automaton.proofs.WrittenBytes.{length-from, few-states, few-rules, r
 use Rattle.simulation.specs.Tree.{any}
 use Rattle.simulation.specs.Simulation.{Relation, related, paired, matches, matched, holds, every, relation, rounds}
 use Rattle.simulation.specs.Query.{simulationOf, roundsOf, relationBytes, relatedOf, relationQuery, relationAfter}
-use Rattle.simulation.specs.Query.{comparisonOf, pairQuery, Unmatched, Compares}
+use Rattle.simulation.specs.Query.{rule, comparisonOf, isYes, pairQuery, Unmatched, Compares}
 use Rattle.simulation.specs.declared.query.Compared.the-variants as compared
 use Rattle.simulation.specs.declared.query.Related.the-variants as answer
 use Rattle.simulation.specs.Words.{statesIn, rulesIn, relationWords}
@@ -249,7 +249,7 @@ module _ (b out : List ℕ) (A : Automaton) (w : WellFormed A) (e : judge b ≡ 
 
 pub compares-refused : (b : List ℕ) (q r : ℕ) (cause : Refusal) → judge b ≡ refused (numberOf cause)
     → Compares b q r (compared.Refused cause)
-unfolding comparisonOf pairQuery _>>=_
+unfolding comparisonOf isYes mapRead pairQuery _>>=_
 compares-refused b q r cause e = record {
   verdict = rw e;
   unmatched = λ A f i g. absurd (let z : _≡_ {A = ℕ} 0 1 = cc in omega arith);
@@ -261,7 +261,7 @@ module _ (b : List ℕ) (q r : ℕ) (A : Automaton) (e : judge b ≡ found A) wh
   outside (inr h) = and-false-right (ltb q (A .states)) (le-ltb r (A .states) h)
 
   pub compares-outside : (A .states ≤ q) ⊎ (A .states ≤ r) → Compares b q r (compared.Refused State)
-  unfolding comparisonOf pairQuery _>>=_ _>>_ check
+  unfolding comparisonOf isYes mapRead pairQuery _>>=_ _>>_ check
   compares-outside h = record {
     verdict = rw (e, outside h);
     unmatched = λ B f i g. absurd (let z : _≡_ {A = ℕ} 0 1 = cc in omega arith);
@@ -272,7 +272,7 @@ module _ (b : List ℕ) (q r : ℕ) (A : Automaton) (e : judge b ≡ found A) wh
     inside = and-true-in (lt-ltb q (A .states) hq) (lt-ltb r (A .states) hr)
 
     pub compares-yes : related (simulationOf A) q r ≡ true → Compares b q r compared.Yes
-    unfolding comparisonOf pairQuery _>>=_ _>>_ check
+    unfolding comparisonOf isYes mapRead pairQuery _>>=_ _>>_ check
     compares-yes h = record {
       verdict = rw (e, inside, h);
       unmatched = λ B f i g. absurd (let z : _≡_ {A = ℕ} 0 1 = cc in omega arith);
@@ -308,7 +308,7 @@ module _ (b : List ℕ) (q r : ℕ) (A : Automaton) (e : judge b ≡ found A) wh
 
     pub compares-rule : (i : ℕ) (rules : List Rule) → related (simulationOf A) q r ≡ false → rules ≡ A .rules
         → i ≡ firstUnmatched rules (simulationOf A) q r → Compares b q r (compared.Rule i)
-    unfolding comparisonOf pairQuery _>>=_ _>>_ check
+    unfolding comparisonOf isYes mapRead pairQuery _>>=_ _>>_ check
     compares-rule i rules h same-rules f = record {
       verdict = rw (e, inside, h);
       unmatched = λ B g j k.

@@ -8,7 +8,7 @@ use lib.Dec.{ltb}
 use Rattle.automaton.specs.Lists.{from}
 use Rattle.automaton.specs.Refusal.{numberOf}
 use Rattle.automaton.specs.Automaton.{Rule, Automaton}
-use Rattle.automaton.specs.Read.{Read, found, refused, _>>=_, _>>_, check}
+use Rattle.automaton.specs.Read.{Read, found, refused, _>>=_, _>>_, mapRead, check}
 use Rattle.automaton.specs.Table.{judge}
 use Rattle.automaton.specs.Decoded.{written, writtenOver}
 use Rattle.simulation.specs.Simulation.{Relation, related, matched, relation, rounds}
@@ -76,12 +76,21 @@ pub record Unmatched (A : Automaton) (q r i : ℕ) : Type 0 where
   pub target : rule .target ≡ q
   pub unmatched : matched (A .rules) (simulationOf A) r rule ≡ false
 
--- The answer, and for the rule's number what holds of it.
-unfoldable pub comparisonOf : Compared → Read Bool
-comparisonOf compared.Yes = found true
-comparisonOf (compared.Rule i) = found false
+-- What the pair query answers: yes, or the number of a rule.
+pub data Comparison : Type 0 where
+  yes : Comparison
+  rule : ℕ → Comparison
+
+unfoldable pub comparisonOf : Compared → Read Comparison
+comparisonOf compared.Yes = found yes
+comparisonOf (compared.Rule i) = found (rule i)
 comparisonOf (compared.Refused cause) = refused (numberOf cause)
 
+unfoldable pub isYes : Comparison → Bool
+isYes yes = true
+isYes (rule i) = false
+
+-- The answer is the pair query's, and of a rule's number it holds that the rule is unmatched.
 pub record Compares (table : List ℕ) (q r : ℕ) (answer : Compared) : Type 0 where
-  pub verdict : comparisonOf answer ≡ pairQuery table q r
-  pub unmatched : (A : Automaton) → judge table ≡ found A → (i : ℕ) → answer ≡ compared.Rule i → Unmatched A q r i
+  pub verdict : mapRead isYes (comparisonOf answer) ≡ pairQuery table q r
+  pub unmatched : (A : Automaton) → judge table ≡ found A → (i : ℕ) → comparisonOf answer ≡ found (rule i) → Unmatched A q r i
