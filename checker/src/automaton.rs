@@ -14,7 +14,7 @@ pub struct Automaton {
 
 /// A rule `symbol(children) -> target`. Places of `children` from the rank on
 /// hold 0.
-#[derive(Clone, Copy, Debug, PartialEq, Eq)]
+#[derive(Clone, Copy, Debug, PartialEq, Eq, Hash)]
 pub struct Rule {
     pub symbol: u16,
     pub target: u16,
@@ -44,5 +44,16 @@ impl Rule {
 
     pub fn children(&self) -> &[u16] {
         &self.children[..usize::from(self.rank)]
+    }
+
+    /// The target and the children.
+    pub(crate) fn states(&self) -> impl Iterator<Item = u16> {
+        [self.target].into_iter().chain(self.children().iter().copied())
+    }
+
+    /// The rule with another name for each state.
+    pub(crate) fn renamed(&self, name: impl Fn(u16) -> u16) -> Self {
+        let children = self.children().iter().map(|&child| name(child));
+        Self::from_iter(self.symbol, name(self.target), children)
     }
 }

@@ -43,6 +43,17 @@ impl<'a> Simulation<'a> {
         self.relation.iter().map(StateSet::len).sum()
     }
 
+    /// Whether `right` simulates `left`. Both must be states.
+    pub fn holds(&self, left: u16, right: u16) -> bool {
+        self.relation[usize::from(left)].contains(right)
+    }
+
+    /// Whether each child of `rule` is simulated by that of `other` in its
+    /// place.
+    pub fn covers(&self, rule: &Rule, other: &Rule) -> bool {
+        covers(&self.relation, rule, other)
+    }
+
     /// Writes a row of bits for each state at the start of `out`. Bytes behind
     /// them stay; if `out` is too short, all stay.
     pub fn write(&self, out: &mut [u8]) -> Result<(), Refusal> {
@@ -61,13 +72,13 @@ impl<'a> Simulation<'a> {
         if usize::from(left) >= states || usize::from(right) >= states {
             return Err(Refusal::UnknownState);
         }
-        if self.relation[usize::from(left)].contains(right) {
+        if self.holds(left, right) {
             return Ok(Pair::Yes);
         }
         let rules = &self.automaton.rules;
         let matched = |rule: &Rule| {
             let same = |other: &&Rule| other.target == right && other.symbol == rule.symbol;
-            rules.iter().filter(same).any(|other| covers(&self.relation, rule, other))
+            rules.iter().filter(same).any(|other| self.covers(rule, other))
         };
         let first = rules.iter().position(|rule| rule.target == left && !matched(rule));
         Ok(Pair::Rule(first.expect("a pair outside the relation has such a rule")))

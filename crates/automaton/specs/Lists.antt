@@ -33,6 +33,6 @@ from i zero = []
 from i (suc n) = i ∷ from (suc i) n
 
 -- The elements that pass a test, in order.
-unfoldable pub keep : (ℕ → Bool) → List ℕ → List ℕ
+unfoldable pub keep : {A : Type 0} → (A → Bool) → List A → List A
 keep test [] = []
 keep test (x ∷ xs) = cond (test x) (x ∷ keep test xs) (keep test xs)

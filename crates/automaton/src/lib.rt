@@ -20,4 +20,5 @@ pub use table::Judged;
 pub use table::Size;
 pub use table::judge;
 pub use writing::Written;
+pub use writing::put_bytes;
 pub use writing::write;

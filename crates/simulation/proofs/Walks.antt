@@ -111,7 +111,7 @@ pub record Walk (next : List ℕ) (P : ℕ → Type 0) (l : ℕ) : Type 0 where
 abbrev pub Keyed : List ℕ → ℕ → ℕ → ℕ → ℕ → Type 0
 Keyed rows k column key j = (j < k) × (getD rows (10 * j + column) 0 ≡ key)
 
-pub walk-from : (rows head next : List ℕ) (column k key : ℕ) → k ≤ 1024 → key < 256 → Chains rows column k head next
+unfoldable pub walk-from : (rows head next : List ℕ) (column k key : ℕ) → k ≤ 1024 → key < 256 → Chains rows column k head next
     → Walk next (Keyed rows k column key) (getD head key 0)
 unfolding Chains
 walk-from rows head next column k key few low chains =

@@ -4,7 +4,7 @@ use mathlib.Core.Path.{_≡_}
 use mathlib.Core.Logic.{_⊎_}
 use mathlib.Core.List.{List, [], _∷_, List·Memᴰ}
 use Rattle.automaton.specs.Automaton.{Rule, Automaton}
-use Rattle.simulation.specs.Tree.{Tree, Trees, node, nil, cons}
+use Rattle.simulation.specs.Tree.{Tree, Trees, node, nil, cons, Over}
 
 -- A tree with a state at every node.
 mutual
@@ -58,8 +58,7 @@ pub record Accepts (A : Automaton) (t : Tree) : Type 0 where
   pub final : List·Memᴰ state (A .finals)
   pub reaches : Reaches (A .rules) t state
 
--- A state takes part in an accepted tree: it stands at some node of a run that ends in a final state. The rules of a
--- well-formed table make the run's tree one over its symbols.
+-- A state takes part in an accepted tree: it stands at some node of a run that ends in a final state, over a tree over the symbols.
 unfoldable mutual
   pub Occurs : ℕ → Run → Type 0
   Occurs p (at q f rs) = (p ≡ q) ⊎ OccursIn p rs
@@ -70,6 +69,7 @@ unfoldable mutual
 
 pub record Useful (A : Automaton) (q : ℕ) : Type 0 where
   pub run : Run
+  pub over : Over (A .ranks) (treeOf run)
   pub is-run : IsRun (A .rules) run
   pub final : List·Memᴰ (root run) (A .finals)
   pub occurs : Occurs q run

@@ -71,8 +71,8 @@ unfoldable pub relationAt : List Rule → List ℕ → ℕ → Relation
 relationAt rules states zero = allPairs states states
 relationAt rules states (suc j) = refine rules (relationAt rules states j)
 
--- The least j with R(j+1) = Rj. `refine` only drops pairs, so equal lengths mean equal relations; every other round loses a
--- pair, so R0's length is fuel enough.
+-- The least j with R(j+1) = Rj. `refine` only drops pairs, so equal lengths mean equal relations; each round before that one
+-- loses a pair, so R0's length is fuel enough.
 unfoldable pub settle : List Rule → ℕ → ℕ → Relation → ℕ
 settle rules zero j R = j
 settle rules (suc fuel) j R =

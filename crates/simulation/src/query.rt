@@ -101,7 +101,7 @@ pub fn relate(table: &[u8], out: &mut [u8]) -> Related
 }
 
 // Whether the words hold the pair of q and r.
-fn has_pair(words: &[u64; 1024], q: usize, r: usize) -> bool
+pub fn has_pair(words: &[u64; 1024], q: usize, r: usize) -> bool
     requires { ⌜ (q < 256) × (r < 256) ⌝ }
     ensures { λ a. ⌜ ((R : simulation.Relation) → now (words .entry) ≡ relationWords R → a ≡ simulation.related R q r) ⌝ }
 {
@@ -126,7 +126,7 @@ fn children_paired(words: &[u64; 1024], rows: &[u16], a: usize, b: usize, count:
 }
 
 // Whether rule j matches rule i.
-fn rule_matches(
+pub fn rule_matches(
     words: &[u64; 1024],
     ranks: &[u8; 256],
     rows: &[u16; 10240],

@@ -149,7 +149,7 @@ fn narrow(
 }
 
 // Whether two sets differ.
-fn differ(a: StateSet, b: StateSet) -> bool
+pub fn differ(a: StateSet, b: StateSet) -> bool
     ensures { λ t. ⌜ (t ≡ false → a .words ≡ b .words) ⌝ }
     ensures { λ t. ⌜ (t ≡ true → Has (a .words) (member (b .words)) → ⊥) ⌝ }
 {

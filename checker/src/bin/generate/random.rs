@@ -86,6 +86,108 @@ impl Random {
         bytes
     }
 
+    /// A well-formed table of up to 10 states and up to 4 symbols, all of rank 0.
+    pub fn leaf_table(&mut self) -> Vec<u8> {
+        let n = 1 + self.below(10);
+        let m = 1 + self.below(4);
+        let k = n + self.below(2 * n);
+        self.table_of(n, &vec![0; m], k)
+    }
+
+    /// A well-formed table of 2 to 12 states, each the target of one or two rules
+    /// of rank 1, and of one to three rules of a leaf.
+    pub fn unary_table(&mut self) -> Vec<u8> {
+        let n = 2 + self.below(11);
+        let step = self.below(2);
+        let arity = if step == 0 { vec![1, 0] } else { vec![0, 1] };
+        let mut rules = Vec::new();
+        for target in 0..n as u16 {
+            for _ in 0..=self.below(4) / 3 {
+                rules.push(rule(step as u16, target, &[self.below(n) as u16]));
+            }
+        }
+        for _ in 0..=self.below(3) {
+            rules.push(rule(1 - step as u16, self.below(n) as u16, &[]));
+        }
+        self.shuffle(&mut rules);
+        self.table_with(n, &arity, &rules)
+    }
+
+    /// A well-formed table of states for leaves, states above them and states
+    /// above both, in which many rules are outdone.
+    pub fn layered_table(&mut self) -> Vec<u8> {
+        let arity = [0, 0, 1, 2];
+        let leaves = 2 + self.below(3);
+        let middle = leaves + 1 + self.below(3);
+        let n = middle + 1 + self.below(2);
+        let mut rules = Vec::new();
+        for target in 0..leaves {
+            rules.push(rule(self.below(2) as u16, target as u16, &[]));
+            if self.below(2) == 0 {
+                rules.push(rule(self.below(2) as u16, target as u16, &[]));
+            }
+        }
+        for target in leaves..n {
+            let below = if target < middle { leaves } else { middle };
+            for _ in 0..2 + self.below(4) {
+                let symbol = 2 + self.below(2);
+                let children: Vec<u16> =
+                    (0..arity[symbol]).map(|_| self.below(below) as u16).collect();
+                rules.push(rule(symbol as u16, target as u16, &children));
+            }
+        }
+        self.shuffle(&mut rules);
+        self.table_with(n, &arity, &rules)
+    }
+
+    /// A well-formed table in which each state of a smaller one stands one to
+    /// three times, and no tree belongs to up to two more.
+    pub fn unfolded_table(&mut self) -> Vec<u8> {
+        let arity = [0, 0, 1, 2];
+        let copies: Vec<usize> = (0..2 + self.below(3)).map(|_| 1 + self.below(3)).collect();
+        let live: usize = copies.iter().sum();
+        let n = live + self.below(3);
+        let mut names: Vec<u16> = (0..n as u16).collect();
+        self.shuffle(&mut names);
+        let (live, dead) = names.split_at(live);
+        let mut rest = live;
+        let groups: Vec<&[u16]> = copies
+            .iter()
+            .map(|&count| rest.split_off(..count).expect("there are as many names as copies"))
+            .collect();
+
+        let mut rules = Vec::new();
+        for _ in 0..groups.len() + 1 + self.below(4) {
+            let symbol = self.below(arity.len());
+            let target = groups[self.below(groups.len())];
+            let children: Vec<&[u16]> =
+                (0..arity[symbol]).map(|_| groups[self.below(groups.len())]).collect();
+            for &target in target {
+                for _ in 0..=self.below(2) {
+                    let one = |group: &&[u16]| group[self.below(group.len())];
+                    let children: Vec<u16> = children.iter().map(one).collect();
+                    rules.push(rule(symbol as u16, target, &children));
+                }
+            }
+        }
+        for &state in dead {
+            rules.push(rule(2, state, &[state]));
+            rules.push(rule(3, names[self.below(n)], &[names[self.below(n)], state]));
+        }
+        self.shuffle(&mut rules);
+        self.table_with(n, &arity, &rules)
+    }
+
+    /// A table of these rules, with some of its states final.
+    fn table_with(&mut self, n: usize, arity: &[u8], rules: &[Vec<u8>]) -> Vec<u8> {
+        let accepting: Vec<u16> = (0..n as u16).filter(|_| self.below(3) == 0).collect();
+        let mut bytes = header(n as u16, arity.len() as u16, rules.len() as u16);
+        bytes.extend(ranks(arity));
+        bytes.extend(finals(&accepting));
+        bytes.extend(rules.concat());
+        bytes
+    }
+
     fn rule(&mut self, symbol: usize, rank: u8, states: usize) -> Vec<u8> {
         let target = self.below(states) as u16;
         let children: Vec<u16> = (0..rank).map(|_| self.below(states) as u16).collect();

@@ -37,14 +37,18 @@ impl Suite {
 
     /// Writes `stdin` and `stdout` in the part of the folder with this name.
     pub fn write(&self, folder: &Path, name: &str) -> io::Result<()> {
-        let folder = folder.join(name);
-        fs::create_dir_all(&folder)?;
-        fs::write(folder.join("stdin"), &self.stdin)?;
-        fs::write(folder.join("stdout"), &self.stdout)?;
+        write(&folder.join(name), &self.stdin, &self.stdout)?;
         let (cases, bytes_in, bytes_out) = (self.names.len(), self.stdin.len(), self.stdout.len());
         println!("{name}: {cases} cases, {bytes_in} bytes in, {bytes_out} bytes out");
         Ok(())
     }
+}
+
+/// Writes `stdin` and `stdout` in the folder.
+pub fn write(folder: &Path, stdin: &[u8], stdout: &str) -> io::Result<()> {
+    fs::create_dir_all(folder)?;
+    fs::write(folder.join("stdin"), stdin)?;
+    fs::write(folder.join("stdout"), stdout)
 }
 
 /// A line of a word and fields, parted by one space each.

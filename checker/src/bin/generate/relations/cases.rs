@@ -6,6 +6,7 @@ use checker::Pair::{self, Rule as No, Yes};
 
 use crate::layout::{BENCH, Rule, bench, refused_tables, table};
 use crate::random::Random;
+use crate::shapes::{back, cycle, forth, over_leaves, two_cycles, unary};
 
 pub struct Case {
     pub name: String,
@@ -33,37 +34,6 @@ const BENCH_QUERIES: [Query; 4] =
 /// The number of states in a table's header.
 fn states(table: &[u8]) -> u16 {
     u16::from_le_bytes([table[6], table[7]])
-}
-
-/// A table of states and rules over one symbol of rank 1, and more rules for a
-/// leaf, symbol 1.
-fn unary(states: u16, steps: &[(u16, u16)], leaves: &[u16]) -> Vec<u8> {
-    let children: Vec<[u16; 1]> = steps.iter().map(|&(from, _)| [from]).collect();
-    let steps = steps.iter().zip(&children).map(|(&(_, to), child)| (0, to, &child[..]));
-    let leaves = leaves.iter().map(|&state| (1, state, &[][..]));
-    let rules: Vec<Rule> = steps.chain(leaves).collect();
-    table(states, &[1, 0], &[], &rules)
-}
-
-/// From each state to the next.
-fn forth(states: u16) -> Vec<(u16, u16)> {
-    (1..states).map(|state| (state - 1, state)).collect()
-}
-
-/// From each state to the one before.
-fn back(states: u16) -> Vec<(u16, u16)> {
-    (1..states).map(|state| (state, state - 1)).collect()
-}
-
-/// A cycle of states from `first` on.
-fn cycle(first: u16, length: u16) -> Vec<(u16, u16)> {
-    (0..length).map(|i| (first + i, first + (i + 1) % length)).collect()
-}
-
-/// These rules behind those of two leaves, states 0 below 1.
-fn over_leaves<'a>(rules: &[Rule<'a>]) -> Vec<Rule<'a>> {
-    let leaves: [Rule; 3] = [(0, 0, &[]), (0, 1, &[]), (1, 1, &[])];
-    [&leaves, rules].concat()
 }
 
 pub fn all() -> Vec<Case> {
@@ -417,7 +387,7 @@ impl Cases {
         self.whole(
             "chain-of-6",
             5,
-            unary(6, &forth(6), &[]),
+            unary(6, &forth(6), &[], &[]),
             &[
                 "y y y y y y",
                 "0 y y y y y",
@@ -430,7 +400,7 @@ impl Cases {
         self.whole(
             "chain-of-6-backwards",
             5,
-            unary(6, &back(6), &[]),
+            unary(6, &back(6), &[], &[]),
             &[
                 "y 0 0 0 0 0",
                 "y y 1 1 1 1",
@@ -443,7 +413,7 @@ impl Cases {
         self.whole(
             "chain-of-4-on-a-leaf",
             3,
-            unary(4, &forth(4), &[0]),
+            unary(4, &forth(4), &[0], &[]),
             &["y 3 3 3", "0 y 0 0", "1 1 y 1", "2 2 2 y"],
         );
 
@@ -461,7 +431,7 @@ impl Cases {
                 (30, 31, Ok(Yes)),
             ];
             let relation = Ok((count - 1, count * (count + 1) / 2));
-            let chain = unary(n, &forth(n), &[]);
+            let chain = unary(n, &forth(n), &[], &[]);
             self.add(format!("chain-of-{n}"), relation, chain, 32 * count, &queries);
         }
         for n in [60, 256] {
@@ -476,7 +446,7 @@ impl Cases {
                 (31, 30, Ok(Yes)),
             ];
             let relation = Ok((count - 1, count * (count + 1) / 2));
-            let chain = unary(n, &back(n), &[]);
+            let chain = unary(n, &back(n), &[], &[]);
             self.add(format!("chain-of-{n}-backwards"), relation, chain, 32 * count, &queries);
         }
         let queries = [
@@ -487,26 +457,23 @@ impl Cases {
             (59, 59, Ok(Yes)),
             (30, 31, Ok(No(29))),
         ];
-        let chain = unary(60, &forth(60), &[0]);
+        let chain = unary(60, &forth(60), &[0], &[]);
         self.add("chain-of-60-on-a-leaf", Ok((59, 60)), chain, 1_920, &queries);
     }
 
     fn cycles(&mut self) {
-        let two = |a: u16, b: u16, leaves: &[u16]| {
-            unary(a + b, &[cycle(0, a), cycle(a, b)].concat(), leaves)
-        };
-        self.whole("cycle-of-3", 0, unary(3, &cycle(0, 3), &[]), &["y y y"; 3]);
+        self.whole("cycle-of-3", 0, unary(3, &cycle(0, 3), &[], &[]), &["y y y"; 3]);
         self.whole(
             "cycle-of-3-with-a-leaf",
             3,
-            unary(3, &cycle(0, 3), &[0]),
+            unary(3, &cycle(0, 3), &[0], &[]),
             &["y 2 2", "0 y 0", "1 1 y"],
         );
         // Each cycle has a leaf where it begins.
         self.whole(
             "cycles-of-2-and-4",
             2,
-            two(2, 4, &[0, 2, 4]),
+            two_cycles(2, 4, &[0, 2, 4], &[]),
             &[
                 "y 1 y 1 y 1",
                 "0 y 0 y 0 y",
@@ -516,7 +483,7 @@ impl Cases {
                 "4 y 4 y 4 y",
             ],
         );
-        let bare = two(7, 9, &[]);
+        let bare = two_cycles(7, 9, &[], &[]);
         let queries = [(0, 7, Ok(Yes)), (15, 6, Ok(Yes))];
         self.add("cycles-of-7-and-9", Ok((0, 256)), bare, 512, &queries);
         // State 15 meets its leaf after 8 steps and after 17; state 1 has its
@@ -528,11 +495,11 @@ impl Cases {
             (6, 13, Ok(No(5))),
             (15, 15, Ok(Yes)),
         ];
-        let leaves = two(7, 9, &[0, 7]);
+        let leaves = two_cycles(7, 9, &[0, 7], &[]);
         self.add("cycles-of-7-and-9-with-a-leaf-each", Ok((18, 16)), leaves, 512, &queries);
         // The states of a cycle without a leaf are below all.
         let queries = [(0, 15, Ok(Yes)), (3, 8, Ok(Yes)), (7, 0, Ok(No(15)))];
-        let one = two(7, 9, &[7]);
+        let one = two_cycles(7, 9, &[7], &[]);
         self.add("cycles-of-7-and-9-with-one-leaf", Ok((9, 121)), one, 512, &queries);
 
         // All states of the second cycle but its first have a leaf, so that a
@@ -549,7 +516,7 @@ impl Cases {
                 (a + b, 0, Err(12)),
             ];
             let name = format!("cycles-of-{a}-and-{b}-meeting-once");
-            self.add(name, relation, two(a, b, &leaves), 32 * n, &queries);
+            self.add(name, relation, two_cycles(a, b, &leaves, &[]), 32 * n, &queries);
         }
     }
 

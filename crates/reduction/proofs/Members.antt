@@ -1,0 +1,182 @@
+-- What is kept of a list, its members and its order; tests of states and rules as facts.
+use Prim.Native.Nat.{ℕ, zero, suc, _+_, _≤_, _<_}
+use native.Mathlib.Omega.{arith}
+use mathlib.Core.Path.{_≡_, refl, sym, ap, ap₂, _∙_}
+use mathlib.Core.Logic.{_⊎_, inl, inr}
+use mathlib.Core.List.{List, [], _∷_, map, List·Memᴰ, List·Memᴰ·head, List·Memᴰ·tail, List·Memᴰ·not-nil, Memᴰ·cast}
+use mathlib.Core.Bool.{Bool, true, false, cond, not, _&&_, _||_, true≢false, false≢true}
+use lib.ListN.{length}
+use lib.Dec.{eqb}
+use borrow.Author.Tests.{eq-eqb, eqb-true, eqb-false, ne-eqb}
+use Rattle.automaton.specs.Lists.{All, none, also, Rising, empty, single, step, all, from, keep}
+use Rattle.automaton.specs.Automaton.{Rule}
+use Rattle.simulation.specs.Tree.{any}
+use Rattle.simulation.proofs.Search.{and-true-in, and-true-out, any-in, any-out}
+use Rattle.reduction.specs.Steps.{among, sameStates, sameRule}
+
+-- Keeping.
+
+module _ {A : Type 0} (test : A → Bool) where
+  pub keep-in : {x : A} {xs : List A} → List·Memᴰ x xs → test x ≡ true → List·Memᴰ x (keep test xs)
+  unfolding keep
+  keep-in {x} (List·Memᴰ·head {x = y} {xs = xs} e) h =
+      let passes : test y ≡ true = ap test (sym e) ∙ h in
+      rw passes (List·Memᴰ·head e)
+  keep-in {x} (List·Memᴰ·tail {x = y} {xs = xs} m) h = go (test y) (keep-in m h)
+    where
+      go : (t : Bool) → List·Memᴰ x (keep test xs) → List·Memᴰ x (cond t (y ∷ keep test xs) (keep test xs))
+      go true n = List·Memᴰ·tail n
+      go false n = n
+
+  pub keep-out : (xs : List A) {x : A} → List·Memᴰ x (keep test xs) → List·Memᴰ x xs × (test x ≡ true)
+  unfolding keep
+  keep-out [] m = absurd (List·Memᴰ·not-nil m)
+  keep-out (y ∷ ys) {x} m = go (test y) refl (keep-out ys) m
+    where
+      later : List·Memᴰ x ys × (test x ≡ true) → List·Memᴰ x (y ∷ ys) × (test x ≡ true)
+      later r = (List·Memᴰ·tail (r .0), r .1)
+
+      go : (t : Bool) → test y ≡ t → (List·Memᴰ x (keep test ys) → List·Memᴰ x ys × (test x ≡ true))
+          → List·Memᴰ x (cond t (y ∷ keep test ys) (keep test ys)) → List·Memᴰ x (y ∷ ys) × (test x ≡ true)
+      go true e rest (List·Memᴰ·head f) = (List·Memᴰ·head f, ap test f ∙ e)
+      go true e rest (List·Memᴰ·tail n) = later (rest n)
+      go false e rest n = later (rest n)
+
+  pub keep-all : (xs : List A) → ((x : A) → List·Memᴰ x xs → test x ≡ true) → keep test xs ≡ xs
+  unfolding keep
+  keep-all [] h = refl
+  keep-all (x ∷ xs) h =
+      rw (h x (List·Memᴰ·head refl), keep-all xs (λ y m. h y (List·Memᴰ·tail m)))
+
+  pub keep-shorter : (xs : List A) → length (keep test xs) ≤ length xs
+  unfolding keep
+  keep-shorter [] = omega arith
+  keep-shorter (x ∷ xs) = go (test x) (keep-shorter xs)
+    where
+      go : (t : Bool) → length (keep test xs) ≤ length xs → length (cond t (x ∷ keep test xs) (keep test xs)) ≤ suc (length xs)
+      go true l = omega arith
+      go false l = omega arith
+
+pub keep-agree : {A : Type 0} (f g : A → Bool) (xs : List A) → ((x : A) → List·Memᴰ x xs → f x ≡ g x) → keep f xs ≡ keep g xs
+unfolding keep
+keep-agree f g [] h = refl
+keep-agree f g (x ∷ xs) h =
+    rw (h x (List·Memᴰ·head refl), keep-agree f g xs (λ y m. h y (List·Memᴰ·tail m)))
+
+pub keep-map : {A B : Type 0} (test : B → Bool) (f : A → B) (xs : List A)
+    → keep test (map f xs) ≡ map f (keep (λ (x : A). test (f x)) xs)
+unfolding keep
+keep-map test f [] = refl
+keep-map {A} test f (x ∷ xs) = rw (keep-map test f xs) (go (test (f x)))
+  where
+    go : (t : Bool) → cond t (f x ∷ map f (keep (λ (y : A). test (f y)) xs)) (map f (keep (λ (y : A). test (f y)) xs))
+        ≡ map f (cond t (x ∷ keep (λ (y : A). test (f y)) xs) (keep (λ (y : A). test (f y)) xs))
+    go true = refl
+    go false = refl
+
+-- States among others.
+
+pub among-out : (xs : List ℕ) (q : ℕ) → among xs q ≡ true → List·Memᴰ q xs
+unfolding among
+among-out xs q h =
+    let f = any-out (λ (p : ℕ). eqb p q) xs h in Memᴰ·cast (sym (eqb-true (f .element) q (f .passes))) (f .member)
+
+pub among-in : {xs : List ℕ} {q : ℕ} → List·Memᴰ q xs → among xs q ≡ true
+unfolding among
+among-in {xs} {q} m = any-in (λ (p : ℕ). eqb p q) m (eq-eqb q q refl)
+
+pub all-in : (test : ℕ → Bool) (xs : List ℕ) → ((q : ℕ) → List·Memᴰ q xs → test q ≡ true) → all test xs ≡ true
+unfolding all
+all-in test [] h = refl
+all-in test (x ∷ xs) h = and-true-in (h x (List·Memᴰ·head refl)) (all-in test xs (λ q m. h q (List·Memᴰ·tail m)))
+
+pub all-out : (test : ℕ → Bool) {xs : List ℕ} → all test xs ≡ true → (q : ℕ) → List·Memᴰ q xs → test q ≡ true
+unfolding all
+all-out test h q (List·Memᴰ·head {x = x} {xs = xs} e) = ap test e ∙ and-true-out (test x) (all test xs) h .0
+all-out test h q (List·Memᴰ·tail {x = x} {xs = xs} m) = all-out test (and-true-out (test x) (all test xs) h .1) q m
+
+-- Two tests that pass the same are equal.
+pub same-bool : {s t : Bool} → (s ≡ true → t ≡ true) → (t ≡ true → s ≡ true) → s ≡ t
+same-bool {s = true} {t = true} f g = refl
+same-bool {s = true} {t = false} f g = absurd (false≢true (f refl))
+same-bool {s = false} {t = true} f g = absurd (false≢true (g refl))
+same-bool {s = false} {t = false} f g = refl
+
+-- Equal lists of states, equal rules.
+
+pub same-states-out : (qs rs : List ℕ) → sameStates qs rs ≡ true → qs ≡ rs
+unfolding sameStates
+same-states-out [] [] h = refl
+same-states-out [] (r ∷ rs) h = absurd (false≢true h)
+same-states-out (q ∷ qs) [] h = absurd (false≢true h)
+same-states-out (q ∷ qs) (r ∷ rs) h =
+    let s = and-true-out (eqb q r) (sameStates qs rs) h in
+    ap₂ _∷_ (eqb-true q r (s .0)) (same-states-out qs rs (s .1))
+
+pub same-states-refl : (qs : List ℕ) → sameStates qs qs ≡ true
+unfolding sameStates
+same-states-refl [] = refl
+same-states-refl (q ∷ qs) = and-true-in (eq-eqb q q refl) (same-states-refl qs)
+
+pub same-rule-out : (u v : Rule) → sameRule u v ≡ true → u ≡ v
+unfolding sameRule
+same-rule-out u v h =
+    let a = and-true-out (eqb (u .symbol) (v .symbol)) _ h in
+    let b = and-true-out (eqb (u .target) (v .target)) (sameStates (u .children) (v .children)) (a .1) in
+    let s : u .symbol ≡ v .symbol = eqb-true (u .symbol) (v .symbol) (a .0) in
+    let t : u .target ≡ v .target = eqb-true (u .target) (v .target) (b .0) in
+    let c : u .children ≡ v .children = same-states-out (u .children) (v .children) (b .1) in
+    let e : _≡_ {A = Rule} (record { symbol = u .symbol; target = u .target; children = u .children })
+    (record { symbol = v .symbol; target = v .target; children = v .children }) = rw (s, t, c) in e
+
+pub same-rule-refl : (u : Rule) → sameRule u u ≡ true
+unfolding sameRule
+same-rule-refl u =
+    and-true-in (eq-eqb (u .symbol) (u .symbol) refl)
+    (and-true-in (eq-eqb (u .target) (u .target) refl) (same-states-refl (u .children)))
+
+-- Rising lists.
+
+pub rising-rest : {x : ℕ} {xs : List ℕ} → Rising (x ∷ xs) → Rising xs
+rising-rest single = empty
+rising-rest (step h r) = r
+
+pub rising-above : {x q : ℕ} {xs : List ℕ} → Rising (x ∷ xs) → List·Memᴰ q xs → x < q
+rising-above single m = absurd (List·Memᴰ·not-nil m)
+rising-above (step {b = b} h r) (List·Memᴰ·head e) = omega arith
+rising-above (step {b = b} h r) (List·Memᴰ·tail m) = let l = rising-above r m in omega arith
+
+pub rising-add : {x : ℕ} {xs : List ℕ} → ((q : ℕ) → List·Memᴰ q xs → x < q) → Rising xs → Rising (x ∷ xs)
+rising-add {xs = []} h r = single
+rising-add {xs = y ∷ ys} h r = step (h y (List·Memᴰ·head refl)) r
+
+pub rising-keep : (test : ℕ → Bool) {xs : List ℕ} → Rising xs → Rising (keep test xs)
+unfolding keep
+rising-keep test {xs = []} r = empty
+rising-keep test {xs = x ∷ xs} r = go (test x) (rising-keep test (rising-rest r))
+  where
+    go : (t : Bool) → Rising (keep test xs) → Rising (cond t (x ∷ keep test xs) (keep test xs))
+    go true k = rising-add (λ q m. rising-above r (keep-out test xs m .0)) k
+    go false k = k
+
+-- A rising list is determined by its members.
+pub rising-same : (xs ys : List ℕ) → Rising xs → Rising ys → ((q : ℕ) → List·Memᴰ q xs → List·Memᴰ q ys)
+    → ((q : ℕ) → List·Memᴰ q ys → List·Memᴰ q xs) → xs ≡ ys
+rising-same [] [] a b f g = refl
+rising-same [] (y ∷ ys) a b f g = absurd (List·Memᴰ·not-nil (g y (List·Memᴰ·head refl)))
+rising-same (x ∷ xs) [] a b f g = absurd (List·Memᴰ·not-nil (f x (List·Memᴰ·head refl)))
+rising-same (x ∷ xs) (y ∷ ys) a b f g =
+    let e : x ≡ y = first (f x (List·Memᴰ·head refl)) (g y (List·Memᴰ·head refl)) in
+    ap₂ _∷_ e (rising-same xs ys (rising-rest a) (rising-rest b)
+    (λ q m. other (rising-above a m) e (f q (List·Memᴰ·tail m)))
+    (λ q m. other (rising-above b m) (sym e) (g q (List·Memᴰ·tail m))))
+  where
+    first : List·Memᴰ x (y ∷ ys) → List·Memᴰ y (x ∷ xs) → x ≡ y
+    first (List·Memᴰ·head e) n = e
+    first (List·Memᴰ·tail m) (List·Memᴰ·head e) = sym e
+    first (List·Memᴰ·tail m) (List·Memᴰ·tail n) =
+        let h = rising-above b m in let k = rising-above a n in absurd (omega arith)
+
+    other : {p q r : ℕ} {zs : List ℕ} → p < q → p ≡ r → List·Memᴰ q (r ∷ zs) → List·Memᴰ q zs
+    other l e (List·Memᴰ·head f) = absurd (omega arith)
+    other l e (List·Memᴰ·tail m) = m

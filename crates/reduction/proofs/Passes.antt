@@ -1,0 +1,348 @@
+-- Passes over the rules that let a set of states grow: what one adds, and that the set ends as the closure, which lies between what
+-- some times find and what the set can hold.
+use Prim.Native.Nat.{ℕ, zero, suc, _+_, _*_, _≤_, _<_}
+use native.Mathlib.Nat.{zero-add}
+use native.Mathlib.Numerals.{add-one}
+use native.Mathlib.Omega.{arith}
+use mathlib.Core.Path.{_≡_, refl, sym, ap, _∙_}
+use mathlib.Core.Logic.{_⊎_, inl, inr}
+use mathlib.Core.List.{List, [], _∷_, _++_, map-append, List·Memᴰ, List·Memᴰ·head, List·Memᴰ·tail, List·Memᴰ·not-nil}
+use mathlib.Core.List.{Memᴰ·append-left, Memᴰ·append-right, List·Memᴰ·append-cases, List·Memᴰ·eq-of-singleton, Memᴰ·of-map}
+use mathlib.Core.Bool.{Bool, true, false, _&&_, _||_, or-comm, or-assoc, or-false, and-true, and-false, false≢true}
+use lib.ListN.{length, take, drop, getD}
+use lib.Seq.{getD-drop}
+use lib.Dec.{eqb}
+use borrow.Author.Tests.{eq-eqb, eqb-true}
+use Rattle.automaton.specs.Lists.{All, also, Rising, single, step, all, from}
+use Rattle.automaton.specs.Automaton.{Rule}
+use Rattle.automaton.specs.StateSet.{member, emptySet, withState}
+use Rattle.automaton.specs.Decoded.{ruleAt}
+use Rattle.automaton.proofs.StateSets.{member-empty, member-with, same-test}
+use Rattle.automaton.proofs.WrittenBytes.{from-step, length-from}
+use Rattle.simulation.specs.Tree.{any}
+use Rattle.simulation.specs.Words.{rulesIn}
+use Rattle.simulation.specs.Inner.{RowRanged, StatesBelow, Has}
+use Rattle.simulation.proofs.Search.{and-true-in, and-true-out, or-true-left, or-true-right, or-true-out}
+use Rattle.simulation.proofs.Ranges.{from-member, member-from}
+use Rattle.simulation.proofs.Ranged.{target-low}
+use Rattle.simulation.proofs.Queries.{ranged-children}
+use Rattle.simulation.proofs.Preorder.{all-member}
+use Rattle.reduction.specs.Steps.{Stage, among, foundIn, closure, buildable, needed, kept}
+use Rattle.reduction.specs.Inner.{Sound, TargetsAdded, ChildrenAdded}
+use Rattle.reduction.proofs.Members.{keep-out, among-in, among-out, all-in, all-out, same-bool}
+use Rattle.reduction.proofs.Overwriting.{part-step, part-end}
+use Rattle.reduction.proofs.Closure.{Monotone, closure-least, closure-closed, closure-found}
+use Rattle.reduction.proofs.Trimming.{buildable-in, buildable-out, buildable-monotone}
+use Rattle.reduction.proofs.Restricting.{Asked, needed-out, needed-monotone, finals-kept, children-kept}
+
+-- One state more.
+
+member-more : (ws : List ℕ) (t q : ℕ) → q < 256 → member (withState ws t) q ≡ (member ws q || eqb t q)
+member-more ws t q h =
+    member-with ws t q h ∙ or-comm (eqb q t) (member ws q) ∙ ap (λ (x : Bool). member ws q || x) (same-test q t t q sym sym)
+
+pub target-out : (set : List ℕ) (t : ℕ) {p : Bool} → p ≡ false → Has set (λ (q : ℕ). member set q || (eqb t q && p))
+target-out set t e q l = rw (e, and-false, or-false)
+
+pub target-in : (set : List ℕ) (t : ℕ) {p : Bool} → p ≡ true → Has (withState set t) (λ (q : ℕ). member set q || (eqb t q && p))
+target-in set t e q l = rw (e, and-true) (member-more set t q l)
+
+pub children-out : (set children : List ℕ) {p : Bool} → p ≡ false
+    → Has set (λ (q : ℕ). member set q || (p && any (λ (c : ℕ). eqb c q) children))
+children-out set children e q l = rw (e, or-false)
+
+-- The states from position j on are those that a set still lacks.
+module _ (rows : List ℕ) (at count : ℕ) where
+  abbrev pub StatesLeft : List ℕ → List ℕ → ℕ → Type 0
+  StatesLeft set grown j =
+      (q : ℕ) → q < 256 → (member set q || any (λ (p : ℕ). eqb p q) (take count (drop at rows)))
+      ≡ (member grown q || any (λ (p : ℕ). eqb p q) (drop j (take count (drop at rows))))
+
+  pub states-next : at + count ≤ length rows → (set grown : List ℕ) (j : ℕ) → j < count → StatesLeft set grown j
+      → StatesLeft set (withState grown (getD rows (at + j) 0)) (j + 1)
+  unfolding any
+  states-next room set grown j h left q l =
+      left q l
+      ∙ rw (part-step rows at count room j h, member-more grown (getD rows (at + j) 0) q l)
+      (sym (or-assoc (member grown q) (eqb (getD rows (at + j) 0) q) _))
+
+  pub states-none : at + count ≤ length rows → (set grown : List ℕ) (j : ℕ) → count ≤ j → StatesLeft set grown j
+      → Has grown (λ (q : ℕ). member set q || any (λ (p : ℕ). eqb p q) (take count (drop at rows)))
+  unfolding any
+  states-none room set grown j h left q l = sym (left q l ∙ rw (part-end rows at count room j h, or-false))
+
+-- Rules, one by one.
+
+module _ (ranks rows : List ℕ) (i : ℕ) where
+  rules-step : rulesIn ranks rows (i + 1) ≡ rulesIn ranks rows i ++ (ruleAt ranks rows i ∷ [])
+  unfolding rulesIn
+  rules-step = rw (from-step, map-append, zero-add)
+
+  rules-old : {u : Rule} → List·Memᴰ u (rulesIn ranks rows i) → List·Memᴰ u (rulesIn ranks rows (i + 1))
+  rules-old m = rw rules-step (Memᴰ·append-left _ m)
+
+  rules-new : List·Memᴰ (ruleAt ranks rows i) (rulesIn ranks rows (i + 1))
+  rules-new = rw rules-step (Memᴰ·append-right (rulesIn ranks rows i) (List·Memᴰ·head refl))
+
+  rules-cases : {u : Rule} → List·Memᴰ u (rulesIn ranks rows (i + 1))
+      → List·Memᴰ u (rulesIn ranks rows i) ⊎ (u ≡ ruleAt ranks rows i)
+  rules-cases m = go (List·Memᴰ·append-cases (rulesIn ranks rows i) (rw rules-step at m))
+    where
+      go : {u : Rule} → List·Memᴰ u (rulesIn ranks rows i) ⊎ List·Memᴰ u (ruleAt ranks rows i ∷ [])
+          → List·Memᴰ u (rulesIn ranks rows i) ⊎ (u ≡ ruleAt ranks rows i)
+      go (inl m) = inl m
+      go (inr m) = inr (List·Memᴰ·eq-of-singleton m)
+
+take-low : (n : ℕ) (xs : List ℕ) → ((j : ℕ) → j < n → getD xs j 0 < 256) → (q : ℕ) → List·Memᴰ q (take n xs) → q < 256
+take-low zero xs h q m = absurd (List·Memᴰ·not-nil m)
+take-low (suc n) [] h q m = absurd (List·Memᴰ·not-nil m)
+take-low (suc n) (x ∷ xs) h q (List·Memᴰ·head e) = omega (arith, h 0 (omega arith))
+take-low (suc n) (x ∷ xs) h q (List·Memᴰ·tail m) = take-low n xs (λ j l. h (suc j) (omega arith)) q m
+
+module _ (ranks rows : List ℕ) (i : ℕ) (ranged : RowRanged ranks rows i) where
+  rule-target-low : ruleAt ranks rows i .target < 256
+  unfolding ruleAt
+  rule-target-low = target-low ranks rows i ranged
+
+  rule-children-low : (q : ℕ) → List·Memᴰ q (ruleAt ranks rows i .children) → q < 256
+  unfolding ruleAt StatesBelow
+  rule-children-low =
+      take-low (getD ranks (getD rows (10 * i) 0) 0) (drop (10 * i + 2) rows)
+      (λ j h. rw getD-drop (ranged-children ranged _ refl j h))
+
+pub rules-each : (P : Rule → Type 0) (ranks rows : List ℕ) (k : ℕ) → ((i : ℕ) → i < k → P (ruleAt ranks rows i))
+    → (u : Rule) → List·Memᴰ u (rulesIn ranks rows k) → P u
+unfolding rulesIn
+rules-each P ranks rows k h u m =
+    let (i, n, e) = Memᴰ·of-map (ruleAt ranks rows) (from 0 k) m in
+    let b = member-from k 0 i n in
+    rw (← e) (h i (omega arith))
+
+-- A pass over no rules adds nothing.
+
+pub targets-none : (ranks rows set : List ℕ) → TargetsAdded (rulesIn ranks rows 0) set set
+unfolding rulesIn from
+targets-none ranks rows set = record {
+  more = λ q l m. m;
+  added = λ u m. absurd (List·Memᴰ·not-nil m);
+  only = λ test start closed. start;
+}
+
+pub children-none : (ranks rows set : List ℕ) → ChildrenAdded (rulesIn ranks rows 0) set set
+unfolding rulesIn from
+children-none ranks rows set = record {
+  more = λ q l m. m;
+  added = λ u m. absurd (List·Memᴰ·not-nil m);
+  only = λ test start closed. start;
+}
+
+-- A turn of each pass.
+module _ (ranks rows : List ℕ) (i : ℕ) (ranged : (j : ℕ) → j < i + 1 → RowRanged ranks rows j) (before grown after : List ℕ) where
+  abbrev new : Rule
+  new = ruleAt ranks rows i
+
+  new-low : (q : ℕ) → List·Memᴰ q (new .children) → q < 256
+  new-low = rule-children-low ranks rows i (ranged i (omega arith))
+
+  pub targets-next : TargetsAdded (rulesIn ranks rows i) before grown
+      → Has after (λ (q : ℕ). member grown q || (eqb (new .target) q && all (member grown) (new .children)))
+      → TargetsAdded (rulesIn ranks rows (i + 1)) before after
+  targets-next a has =
+      record {
+        more = λ q l m. still q l (a .more q l m);
+        added = λ v m e. add v e (rules-cases ranks rows i m);
+        only = λ test start closed q l m.
+            let below = a .only test start (λ v n. closed v (rules-old ranks rows i n)) in
+            within test below (closed new (rules-new ranks rows i)) q l
+            (or-true-out (member grown q) (eqb (new .target) q && all (member grown) (new .children)) (sym (has q l) ∙ m));
+      }
+    where
+      still : (q : ℕ) → q < 256 → member grown q ≡ true → member after q ≡ true
+      still q l m = has q l ∙ or-true-left _ m
+
+      add : (v : Rule) → all (member before) (v .children) ≡ true → List·Memᴰ v (rulesIn ranks rows i) ⊎ (v ≡ new)
+          → member after (v .target) ≡ true
+      add v e (inl m) =
+          still (v .target) (rules-each (λ (w : Rule). w .target < 256) ranks rows i
+          (λ j h. rule-target-low ranks rows j (ranged j (omega arith))) v m) (a .added v m e)
+      add v e (inr s) =
+          rw s
+          (has (new .target) (rule-target-low ranks rows i (ranged i (omega arith)))
+          ∙ or-true-right (member grown (new .target))
+          (and-true-in (eq-eqb (new .target) (new .target) refl)
+          (all-in (member grown) (new .children) (λ q n. a .more q (new-low q n) (all-out (member before) (rw s at e) q n)))))
+
+      within : (test : ℕ → Bool) → ((q : ℕ) → q < 256 → member grown q ≡ true → test q ≡ true)
+          → (all test (new .children) ≡ true → test (new .target) ≡ true) → (q : ℕ) → q < 256
+          → (member grown q ≡ true) ⊎ ((eqb (new .target) q && all (member grown) (new .children)) ≡ true) → test q ≡ true
+      within test below closed q l (inl m) = below q l m
+      within test below closed q l (inr b) =
+          let s = and-true-out (eqb (new .target) q) (all (member grown) (new .children)) b in
+          rw (← eqb-true (new .target) q (s .0))
+          (closed (all-in test (new .children) (λ p n. below p (new-low p n) (all-out (member grown) (s .1) p n))))
+
+  pub children-next : ChildrenAdded (rulesIn ranks rows i) before grown
+      → Has after (λ (q : ℕ). member grown q || (member grown (new .target) && any (λ (p : ℕ). eqb p q) (new .children)))
+      → ChildrenAdded (rulesIn ranks rows (i + 1)) before after
+  unfolding among
+  children-next a has =
+      record {
+        more = λ q l m. still q l (a .more q l m);
+        added = λ v m e q n. add v e q n (rules-cases ranks rows i m);
+        only = λ test start closed q l m.
+            let below = a .only test start (λ v n. closed v (rules-old ranks rows i n)) in
+            within test below (closed new (rules-new ranks rows i)) q l
+            (or-true-out (member grown q) (member grown (new .target) && among (new .children) q) (sym (has q l) ∙ m));
+      }
+    where
+      target : new .target < 256
+      target = rule-target-low ranks rows i (ranged i (omega arith))
+
+      still : (q : ℕ) → q < 256 → member grown q ≡ true → member after q ≡ true
+      still q l m = has q l ∙ or-true-left _ m
+
+      add : (v : Rule) → member before (v .target) ≡ true → (q : ℕ) → List·Memᴰ q (v .children)
+          → List·Memᴰ v (rulesIn ranks rows i) ⊎ (v ≡ new) → member after q ≡ true
+      add v e q n (inl m) =
+          still q (rules-each (λ (w : Rule). (p : ℕ) → List·Memᴰ p (w .children) → p < 256) ranks rows i
+          (λ j h. rule-children-low ranks rows j (ranged j (omega arith))) v m q n) (a .added v m e q n)
+      add v e q n (inr s) =
+          has q (new-low q (rw s at n))
+          ∙ or-true-right (member grown q)
+          (and-true-in (a .more (new .target) target (rw s at e)) (among-in (rw s at n)))
+
+      within : (test : ℕ → Bool) → ((q : ℕ) → q < 256 → member grown q ≡ true → test q ≡ true)
+          → (test (new .target) ≡ true → (q : ℕ) → List·Memᴰ q (new .children) → test q ≡ true) → (q : ℕ) → q < 256
+          → (member grown q ≡ true) ⊎ ((member grown (new .target) && among (new .children) q) ≡ true) → test q ≡ true
+      within test below closed q l (inl m) = below q l m
+      within test below closed q l (inr b) =
+          let s = and-true-out (member grown (new .target)) (among (new .children) q) b in
+          closed (below (new .target) target (s .0)) q (among-out (new .children) q (s .1))
+
+-- Times of a closure.
+
+module _ (test : List ℕ → ℕ → Bool) (states : List ℕ) where
+  -- A set has what some times find, and nothing that no time finds.
+  pub record Between (times : ℕ) (set : List ℕ) : Type 0 where
+    pub found : (q : ℕ) → List·Memᴰ q (foundIn test states times) → member set q ≡ true
+    pub only : (q : ℕ) → q < 256 → member set q ≡ true → List·Memᴰ q (closure test states)
+
+  -- What a time finds from states of one set is in another.
+  abbrev pub Finds : List ℕ → List ℕ → Type 0
+  Finds set grown =
+      (found : List ℕ) → ((p : ℕ) → List·Memᴰ p found → member set p ≡ true) → (q : ℕ) → List·Memᴰ q states → test found q ≡ true
+      → member grown q ≡ true
+
+  pub between-none : (set : List ℕ) → ((q : ℕ) → q < 256 → member set q ≡ true → List·Memᴰ q (closure test states)) → Between 0 set
+  unfolding foundIn
+  between-none set only = record { found = λ q m. absurd (List·Memᴰ·not-nil m); only = only }
+
+  module _ (times : ℕ) (set : List ℕ) (b : Between times set) where
+    pub between-next : (grown : List ℕ) → Finds set grown
+        → ((q : ℕ) → q < 256 → member grown q ≡ true → List·Memᴰ q (closure test states)) → Between (times + 1) grown
+    unfolding foundIn
+    between-next grown finds only =
+        rw add-one
+        (record {
+          found = λ q m. let k = keep-out (test (foundIn test states times)) states m in
+              finds (foundIn test states times) (b .found) q (k .0) (k .1);
+          only = only;
+        })
+
+    pub between-settled : Finds set set → Has set (among (closure test states))
+    between-settled finds q l =
+        same-bool (λ m. among-in (b .only q l m))
+        (λ m. closure-least test states (λ (p : ℕ). member set p ≡ true) finds q (among-out (closure test states) q m))
+
+    pub between-ended : Monotone test → length states ≤ times → Has set (among (closure test states))
+    between-ended monotone few q l =
+        same-bool (λ m. among-in (b .only q l m))
+        (λ m. b .found q (closure-found test states monotone times few q (among-out (closure test states) q m)))
+
+-- Productive states.
+module _ (rules : List Rule) (n : ℕ) (low : (u : Rule) → List·Memᴰ u rules → u .target < n) where
+  abbrev productives : List ℕ
+  productives = closure (buildable rules) (from 0 n)
+
+  pub none-built : Between (buildable rules) (from 0 n) 0 emptySet
+  none-built =
+      between-none (buildable rules) (from 0 n) emptySet (λ q l m. absurd (false≢true (sym (member-empty q l) ∙ m)))
+
+  module _ (set grown : List ℕ) (a : TargetsAdded rules set grown) where
+    finds-built : Finds (buildable rules) (from 0 n) set grown
+    finds-built found h q m e =
+        let b = buildable-out rules found q e in
+        rw (b .target) at (a .added (b .rule) (b .is-rule) (all-in (member set) (b .rule .children) (λ p k. h p (b .children p k))))
+
+    pub built-next : (times : ℕ) → Between (buildable rules) (from 0 n) times set → Between (buildable rules) (from 0 n) (times + 1) grown
+    built-next times b =
+        between-next (buildable rules) (from 0 n) times set b grown finds-built
+        (λ q l m. among-out productives q (a .only (among productives) (λ p k h. among-in (b .only p k h)) closed q l m))
+      where
+        closed : (u : Rule) → List·Memᴰ u rules → all (among productives) (u .children) ≡ true → among productives (u .target) ≡ true
+        closed u m h =
+            among-in (closure-closed (buildable rules) (from 0 n) (buildable-monotone rules) (u .target)
+            (from-member n 0 (u .target) (omega arith) (omega (arith, low u m)))
+            (buildable-in rules productives u m (λ q k. among-out productives q (all-out (among productives) h q k))))
+
+  pub built-settled : (times : ℕ) (set : List ℕ) → Between (buildable rules) (from 0 n) times set → TargetsAdded rules set set
+      → Has set (among productives)
+  built-settled times set b a = between-settled (buildable rules) (from 0 n) times set b (finds-built set set a)
+
+  pub built-ended : n ≤ 256 → (times : ℕ) (set : List ℕ) → Between (buildable rules) (from 0 n) times set → 256 ≤ times
+      → Has set (among productives)
+  built-ended few times set b h =
+      between-ended (buildable rules) (from 0 n) times set b (buildable-monotone rules) (omega (arith, length-from 0 n))
+
+-- Needed states.
+
+rising-few : (n : ℕ) {xs : List ℕ} → Rising xs → All (λ (q : ℕ). q < n) xs → length xs ≤ n
+rising-few n {xs = []} r h = omega arith
+rising-few n {xs = x ∷ xs} r h = omega (arith, go r h)
+  where
+    go : {x : ℕ} {xs : List ℕ} → Rising (x ∷ xs) → All (λ (q : ℕ). q < n) (x ∷ xs) → x + suc (length xs) ≤ n
+    go single (also h hs) = omega arith
+    go (step l r) (also h hs) = omega (arith, go r hs)
+
+module _ (S : Stage) (sound : Sound S) where
+  -- The set has the final states from the first on.
+  pub record Collected (times : ℕ) (set : List ℕ) : Type 0 where
+    pub between : Between (needed S) (S .states) times set
+    pub finals : (q : ℕ) → List·Memᴰ q (S .finals) → member set q ≡ true
+
+  pub finals-collected : (set : List ℕ) → Has set (among (S .finals)) → Collected 0 set
+  unfolding kept
+  finals-collected set has = record {
+    between = between-none (needed S) (S .states) set
+        (λ q l m. finals-kept S sound q (among-out (S .finals) q (sym (has q l) ∙ m)));
+    finals = λ q m. has q (all-member (sound .low) (sound .finals q m)) ∙ among-in m;
+  }
+
+  module _ (set grown : List ℕ) (a : ChildrenAdded (S .rules) set grown) (times : ℕ) (c : Collected times set) where
+    finds-needed : Finds (needed S) (S .states) set grown
+    finds-needed found h q m e = go (needed-out S found q e)
+      where
+        go : List·Memᴰ q (S .finals) ⊎ Asked S found q → member grown q ≡ true
+        go (inl f) = a .more q (all-member (sound .low) m) (c .finals q f)
+        go (inr k) = a .added (k .rule) (k .is-rule) (h (k .rule .target) (k .target)) q (k .child)
+
+    pub needed-next : Collected (times + 1) grown
+    unfolding kept
+    needed-next = record {
+      between = between-next (needed S) (S .states) times set (c .between) grown finds-needed
+          (λ q l m. among-out (kept S) q (a .only (among (kept S)) (λ p k h. among-in (c .between .only p k h))
+          (λ u k h p n. among-in (children-kept S sound u k (among-out (kept S) (u .target) h) p n)) q l m));
+      finals = λ q m. a .more q (all-member (sound .low) (sound .finals q m)) (c .finals q m);
+    }
+
+  pub needed-settled : (times : ℕ) (set : List ℕ) → Collected times set → ChildrenAdded (S .rules) set set
+      → Has set (among (kept S))
+  unfolding kept
+  needed-settled times set c a =
+      between-settled (needed S) (S .states) times set (c .between) (finds-needed set set a times c)
+
+  pub needed-ended : (times : ℕ) (set : List ℕ) → Collected times set → 256 ≤ times → Has set (among (kept S))
+  unfolding kept
+  needed-ended times set c h =
+      between-ended (needed S) (S .states) times set (c .between) (needed-monotone S)
+      (omega (arith, rising-few 256 (sound .rising) (sound .low)))

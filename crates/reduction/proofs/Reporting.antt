@@ -1,0 +1,92 @@
+-- What a report says of a decoded table: the numbers in it are small, and the code's are those of the table.
+use Prim.Native.Nat.{ℕ, _+_, _*_, _-_, _≤_, _<_}
+use native.Mathlib.Nat.{zero-add, mul-le-mul}
+use native.Mathlib.Omega.{arith}
+use mathlib.Core.Path.{_≡_, refl, _∙_}
+use mathlib.Core.List.{List, [], _∷_, _++_}
+use lib.ListN.{length, take, drop, length-map}
+use Rattle.automaton.specs.Lists.{from}
+use Rattle.automaton.specs.Automaton.{Automaton, WellFormed}
+use Rattle.automaton.specs.Refusal.{numberOf}
+use Rattle.automaton.specs.Read.{refused}
+use Rattle.automaton.specs.Table.{judge}
+use Rattle.automaton.specs.Decoded.{automatonIn}
+use Rattle.automaton.specs.Inner.{over}
+use Rattle.automaton.specs.declared.refusal.Refusal.{Refusal}
+use Rattle.automaton.specs.declared.refusal.Refusal.the-variants.{Broken, Kind, Length, Limit, Range, Order, Count}
+use Rattle.automaton.specs.declared.refusal.Refusal.the-variants.{Tree, Symbol, Shape, Bound, State, Room}
+use Rattle.automaton.specs.declared.table.Size.{Size}
+use Rattle.automaton.proofs.Meaning.{Held}
+use Rattle.automaton.proofs.WrittenBytes.{length-from, over-behind, few-states, few-rules}
+use Rattle.simulation.proofs.Maximality.{Closed, rounds-below}
+use Rattle.reduction.specs.Steps.{buildable, productive, trimmed, roundsIn}
+use Rattle.reduction.specs.Reduce.{reduce, reductionRounds}
+use Rattle.reduction.specs.Report.{line, refusedWord, reportOf, report}
+use Rattle.reduction.specs.Inner.{reducedLines}
+use Rattle.reduction.proofs.Lettering.{Put}
+use Rattle.reduction.proofs.Trimming.{trimmed-sound}
+use Rattle.reduction.proofs.Counting.{closure-shorter, reduce-well-formed}
+
+-- A table that is refused.
+
+pub refusal-few : (cause : Refusal) → numberOf cause < 100000
+refusal-few Broken = omega arith
+refusal-few Kind = omega arith
+refusal-few Length = omega arith
+refusal-few Limit = omega arith
+refusal-few Range = omega arith
+refusal-few Order = omega arith
+refusal-few Count = omega arith
+refusal-few Tree = omega arith
+refusal-few Symbol = omega arith
+refusal-few Shape = omega arith
+refusal-few Bound = omega arith
+refusal-few State = omega arith
+refusal-few Room = omega arith
+
+pub report-refused : (b : List ℕ) (cause : Refusal) → judge b ≡ refused (numberOf cause)
+    → (out : List ℕ) (n end : ℕ) (now : List ℕ) → n ≡ numberOf cause → Put out 0 (line refusedWord (n ∷ [])) end now
+    → (end ≡ length (reportOf (judge b))) × (now ≡ over out 0 (reportOf (judge b)))
+unfolding reportOf
+report-refused b cause judged out n end now e put = rw (judged, ← e) (rw zero-add at put)
+
+-- A table that is not refused, and what reducing it leaves.
+
+pub reduction-rounds-few : (A : Automaton) → WellFormed A → reductionRounds A < 100000
+unfolding reductionRounds roundsIn trimmed productive Closed
+reduction-rounds-few A w =
+    let n = length (productive A) in
+    let few : n ≤ 256 =
+    omega (arith, w .states, closure-shorter (buildable (A .rules)) (from 0 (A .states)), length-from 0 (A .states)) in
+    let fewer : n - 1 ≤ 255 = omega arith in
+    let product : n * (n - 1) ≤ 256 * 255 = mul-le-mul few fewer in
+    omega (arith, rounds-below (trimmed A .rules) (trimmed A .states) (λ u m t. trimmed-sound A w .children u m))
+
+module _ (b : List ℕ) (size : Size) (finals ranks cells : List ℕ) (held : Held b size finals ranks cells)
+    (left : Size) (finals′ cells′ : List ℕ) (rounds : ℕ)
+    (reduced : automatonIn left finals′ ranks cells′ ≡ reduce (automatonIn size finals ranks cells))
+    (counted : rounds ≡ reductionRounds (automatonIn size finals ranks cells)) where
+  well-formed : WellFormed (automatonIn size finals ranks cells)
+  well-formed = rw (held .holds) (held .well-formed)
+
+  pub counts-few : (size .states < 100000)
+      × ((left .states < 100000) × ((size .rules < 100000) × ((left .rules < 100000) × (rounds < 100000))))
+  counts-few =
+      let w = well-formed in
+      let v : WellFormed (automatonIn left finals′ ranks cells′) = rw reduced (reduce-well-formed _ w) in
+      let few = reduction-rounds-few _ w in (
+        omega (arith, few-states _ _ _ _ w),
+        (omega (arith, few-states _ _ _ _ v), (omega (arith, few-rules _ _ _ _ w), (omega (arith, few-rules _ _ _ _ v), omega arith))),
+      )
+
+  pub report-found : reducedLines size left rounds ≡ reportOf (judge b)
+  unfolding reducedLines reportOf automatonIn
+  report-found =
+      rw (held .judged, ← held .holds, ← reduced, ← counted) (simp (length-map, length-from))
+
+-- The report on an input, at the start of the buffer.
+pub report-written : (input part out : List ℕ) (end : ℕ) (now : List ℕ) → part ≡ take 27417 input
+    → (end ≡ length (reportOf (judge part))) × (now ≡ over out 0 (reportOf (judge part)))
+    → (end ≡ length (report input)) × (now ≡ report input ++ drop (length (report input)) out)
+unfolding report
+report-written input part out end now e p = rw (← e) (p .0, p .1 ∙ over-behind [] out (reportOf (judge part)) 0 refl)

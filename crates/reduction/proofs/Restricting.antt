@@ -1,0 +1,135 @@
+-- The kept states are the least set that has the final states and the children of each rule whose target it has; so restricting loses
+-- no run that ends in one of them.
+use Prim.Native.Nat.{ℕ}
+use mathlib.Core.Path.{_≡_, refl, _∙_}
+use mathlib.Core.Logic.{_⊎_, inl, inr}
+use mathlib.Core.List.{List, List·Memᴰ, Memᴰ·cast}
+use mathlib.Core.Bool.{Bool, true, _&&_}
+use Rattle.automaton.specs.Automaton.{Rule}
+use Rattle.simulation.specs.Tree.{any}
+use Rattle.simulation.specs.Simulation.{Simulates}
+use Rattle.simulation.proofs.Search.{and-true-in, and-true-out, or-true-out, or-true-left, or-true-right, any-in, any-out}
+use Rattle.simulation.proofs.Language.{each-refl}
+use Rattle.simulation.proofs.Preorder.{all-member}
+use Rattle.reduction.specs.Steps.{Stage, among, needed, kept, restricted}
+use Rattle.reduction.specs.Inner.{Sound}
+use Rattle.reduction.proofs.Members.{keep-in, keep-out, among-in, among-out}
+use Rattle.reduction.proofs.Closure.{Monotone, closure-least, closure-states, closure-rising, closure-closed}
+use Rattle.reduction.proofs.Trimming.{member-all, part-simulates}
+
+-- A rule whose target was found before and that has q among its children.
+pub record Asked (S : Stage) (found : List ℕ) (q : ℕ) : Type 0 where
+  pub rule : Rule
+  pub is-rule : List·Memᴰ rule (S .rules)
+  pub target : List·Memᴰ (rule .target) found
+  pub child : List·Memᴰ q (rule .children)
+
+module _ (S : Stage) where
+  needed-final : (found : List ℕ) (q : ℕ) → List·Memᴰ q (S .finals) → needed S found q ≡ true
+  unfolding needed
+  needed-final found q m = or-true-left _ (among-in m)
+
+  needed-child : (found : List ℕ) (q : ℕ) → Asked S found q → needed S found q ≡ true
+  unfolding needed
+  needed-child found q a =
+      or-true-right (among (S .finals) q)
+      (any-in (λ (u : Rule). among found (u .target) && among (u .children) q) (a .is-rule)
+      (and-true-in (among-in (a .target)) (among-in (a .child))))
+
+  pub needed-out : (found : List ℕ) (q : ℕ) → needed S found q ≡ true → List·Memᴰ q (S .finals) ⊎ Asked S found q
+  unfolding needed
+  needed-out found q h = go (or-true-out (among (S .finals) q) (any asks (S .rules)) h)
+    where
+      asks : Rule → Bool
+      asks u = among found (u .target) && among (u .children) q
+
+      go : (among (S .finals) q ≡ true) ⊎ (any asks (S .rules) ≡ true) → List·Memᴰ q (S .finals) ⊎ Asked S found q
+      go (inl e) = inl (among-out (S .finals) q e)
+      go (inr e) =
+          let u = any-out asks (S .rules) e in
+          let a = and-true-out (among found (u .element .target)) (among (u .element .children) q) (u .passes) in
+          inr (record {
+            rule = u .element;
+            is-rule = u .member;
+            target = among-out found (u .element .target) (a .0);
+            child = among-out (u .element .children) q (a .1);
+          })
+
+  pub needed-monotone : Monotone (needed S)
+  unfolding Monotone
+  needed-monotone xs ys more q h = go (needed-out xs q h)
+    where
+      go : List·Memᴰ q (S .finals) ⊎ Asked S xs q → needed S ys q ≡ true
+      go (inl m) = needed-final ys q m
+      go (inr a) =
+          needed-child ys q
+          (record { rule = a .rule; is-rule = a .is-rule; target = more (a .rule .target) (a .target); child = a .child })
+
+module _ (S : Stage) (sound : Sound S) where
+  pub kept-states : (q : ℕ) → List·Memᴰ q (kept S) → List·Memᴰ q (S .states)
+  unfolding kept
+  kept-states = closure-states (needed S) (S .states)
+
+  kept-closed : (q : ℕ) → List·Memᴰ q (S .states) → needed S (kept S) q ≡ true → List·Memᴰ q (kept S)
+  unfolding kept
+  kept-closed = closure-closed (needed S) (S .states) (needed-monotone S)
+
+  pub finals-kept : (q : ℕ) → List·Memᴰ q (S .finals) → List·Memᴰ q (kept S)
+  finals-kept q m = kept-closed q (sound .finals q m) (needed-final S (kept S) q m)
+
+  pub children-kept : (u : Rule) → List·Memᴰ u (S .rules) → List·Memᴰ (u .target) (kept S)
+      → (q : ℕ) → List·Memᴰ q (u .children) → List·Memᴰ q (kept S)
+  children-kept u m t q n =
+      kept-closed q (sound .children u m q n)
+      (needed-child S (kept S) q (record { rule = u; is-rule = m; target = t; child = n }))
+
+  pub kept-least : (P : ℕ → Type 0) → ((q : ℕ) → List·Memᴰ q (S .finals) → P q)
+      → ((u : Rule) → List·Memᴰ u (S .rules) → List·Memᴰ (u .target) (kept S) → P (u .target)
+      → (q : ℕ) → List·Memᴰ q (u .children) → P q)
+      → (q : ℕ) → List·Memᴰ q (kept S) → P q
+  unfolding kept
+  kept-least P final child q m =
+      closure-least (needed S) (S .states) Kept (λ found h p n e. go found h p (needed-out S found p e)) q m .1
+    where
+      Kept : ℕ → Type 0
+      Kept p = List·Memᴰ p (kept S) × P p
+
+      go : (found : List ℕ) → ((p : ℕ) → List·Memᴰ p found → Kept p)
+          → (p : ℕ) → List·Memᴰ p (S .finals) ⊎ Asked S found p → Kept p
+      go found h p (inl f) = (finals-kept p f, final p f)
+      go found h p (inr a) =
+          let t = h (a .rule .target) (a .target) in
+          (children-kept (a .rule) (a .is-rule) (t .0) p (a .child), child (a .rule) (a .is-rule) (t .0) (t .1) p (a .child))
+
+  restricted-out : (u : Rule) → List·Memᴰ u (restricted S .rules) → List·Memᴰ u (S .rules) × List·Memᴰ (u .target) (kept S)
+  unfolding restricted
+  restricted-out u m =
+      let k = keep-out (λ (v : Rule). among (kept S) (v .target)) (S .rules) m in
+      (k .0, among-out (kept S) (u .target) (k .1))
+
+  pub restricted-sound : Sound (restricted S)
+  unfolding restricted kept
+  restricted-sound =
+      record {
+        rising = closure-rising (needed S) (S .states) (sound .rising);
+        low = member-all (kept S) (λ q m. all-member (sound .low) (kept-states q m));
+        finals-rising = sound .finals-rising;
+        finals = finals-kept;
+        targets = λ u m. restricted-out u m .1;
+        children = λ u m. let k = restricted-out u m in children-kept u (k .0) (k .1);
+      }
+
+  pub into-restricted : Simulates (S .rules) (restricted S .rules) (λ (q r : ℕ). (q ≡ r) × List·Memᴰ q (kept S))
+  unfolding Simulates restricted
+  into-restricted q r d u m e =
+      let t : List·Memᴰ (u .target) (kept S) = Memᴰ·cast e (d .1) in
+      record {
+        rule = u;
+        is-rule = keep-in (λ (v : Rule). among (kept S) (v .target)) m (among-in t);
+        target = e ∙ d .0;
+        symbol = refl;
+        children = each-refl (λ p n. (refl, children-kept u m t p n));
+      }
+
+  pub from-restricted : Simulates (restricted S .rules) (S .rules) (λ (q r : ℕ). q ≡ r)
+  from-restricted = part-simulates (restricted S .rules) (S .rules) (λ u m. restricted-out u m .0)

@@ -1,0 +1,255 @@
+-- What each step's calls leave in the arrays is the stage that the step defines.
+use Prim.Native.Nat.{ℕ, _+_, _*_, _≤_, _<_}
+use native.Mathlib.Nat.{add-zero}
+use native.Mathlib.Omega.{arith}
+use mathlib.Core.Path.{_≡_, refl, sym, ap, ap₂, _∙_}
+use mathlib.Core.List.{List, [], _∷_, map, List·Memᴰ, List·Memᴰ·head, List·Memᴰ·tail, Memᴰ·map, Memᴰ·of-map}
+use mathlib.Core.Bool.{Bool, true, false, not, _&&_}
+use lib.ListN.{length, getD, length-map}
+use lib.Dec.{eqb}
+use borrow.Author.Tests.{eq-eqb, eqb-true}
+use Rattle.automaton.specs.Lists.{Rising, all, from, keep}
+use Rattle.automaton.specs.Automaton.{Rule, Automaton, WellFormed, WellFormedRule}
+use Rattle.automaton.specs.StateSet.{member}
+use Rattle.automaton.specs.Decoded.{ruleAt}
+use Rattle.automaton.proofs.WrittenBytes.{length-from}
+use Rattle.simulation.specs.Tree.{any}
+use Rattle.simulation.specs.Simulation.{Relation}
+use Rattle.simulation.specs.Words.{statesIn, rulesIn, relationWords}
+use Rattle.simulation.specs.Inner.{RowRanged, Has}
+use Rattle.simulation.proofs.Search.{and-true-in, and-true-out, any-in, any-out}
+use Rattle.simulation.proofs.Ranges.{from-member, member-from, from-rising}
+use Rattle.simulation.proofs.Preorder.{all-member}
+use Rattle.reduction.specs.Steps.{Stage, among, closure, buildable, productive, namesOnly, trimmed, below, equivalent, firstOf, representative}
+use Rattle.reduction.specs.Steps.{renamed, firsts, quotient, dominated, pruned, kept, restricted, position, numbered}
+use Rattle.reduction.specs.Reduce.{shortened}
+use Rattle.reduction.specs.Inner.{Sound, Known, nameIn, marked, isFirst, stageIn}
+use Rattle.reduction.proofs.Members.{keep-in, keep-out, keep-agree, keep-shorter, among-in, among-out, same-bool, rising-keep, rising-same}
+use Rattle.reduction.proofs.Firsts.{firsts-out, firsts-places, any-map}
+use Rattle.reduction.proofs.Quotient.{below-reflexive, first-same, representative-state, quotient-states, quotient-sound}
+use Rattle.reduction.proofs.Restricting.{kept-states}
+use Rattle.reduction.proofs.Soundness.{sound-pruned, sound-shortened}
+use Rattle.reduction.proofs.Numbering.{position-low, positions-rising}
+use Rattle.reduction.proofs.Staged.{marked-rules, set-states, states-set, rule-in, known-rules, known-like, ranged-rows, ranged-stage}
+
+all-agree : (f g : ℕ → Bool) (qs : List ℕ) → ((q : ℕ) → List·Memᴰ q qs → f q ≡ g q) → all f qs ≡ all g qs
+unfolding all
+all-agree f g [] h = refl
+all-agree f g (q ∷ qs) h =
+    ap₂ _&&_ (h q (List·Memᴰ·head refl)) (all-agree f g qs (λ p m. h p (List·Memᴰ·tail m)))
+
+map-agree : {A B : Type 0} (f g : A → B) (xs : List A) → ((x : A) → List·Memᴰ x xs → f x ≡ g x) → map f xs ≡ map g xs
+map-agree f g [] h = refl
+map-agree f g (x ∷ xs) h = ap₂ _∷_ (h x (List·Memᴰ·head refl)) (map-agree f g xs (λ y m. h y (List·Memᴰ·tail m)))
+
+-- Two names that agree on the states of a sound stage rename its rules alike.
+renamed-agree : (f g : ℕ → ℕ) (S : Stage) → Sound S → ((q : ℕ) → List·Memᴰ q (S .states) → f q ≡ g q)
+    → map (renamed f) (S .rules) ≡ map (renamed g) (S .rules)
+unfolding renamed
+renamed-agree f g S sound h =
+    map-agree (renamed f) (renamed g) (S .rules)
+    (λ u m. let t : f (u .target) ≡ g (u .target) = h (u .target) (sound .targets u m) in
+    let c : map f (u .children) ≡ map g (u .children) = map-agree f g (u .children) (λ q n. h q (sound .children u m q n)) in
+    rw (t, c))
+
+-- Step 1.
+
+module _ (ranks rows : List ℕ) (k : ℕ) (ranged : (i : ℕ) → i < k → RowRanged ranks rows i) (states : List ℕ)
+    (found : (n : ℕ) → n ≤ 256 → ((i : ℕ) → i < k → getD rows (10 * i + 1) 0 < n)
+    → Has states (among (closure (buildable (rulesIn ranks rows k)) (from 0 n))))
+    (A : Automaton) (w : WellFormed A) (e : rulesIn ranks rows k ≡ A .rules) where
+  target-low : (i : ℕ) → i < k → getD rows (10 * i + 1) 0 < A .states
+  unfolding ruleAt
+  target-low i h = let u : WellFormedRule A (ruleAt ranks rows i) = all-member (w .rules) (rw e at (rule-in ranks rows k i h)) in u .target
+
+  pub productive-found : Has states (among (productive A))
+  unfolding productive
+  productive-found = rw e at (found (A .states) (w .states) target-low)
+
+  named-agrees : (i : ℕ) → i < k
+      → (member states (ruleAt ranks rows i .target) && all (member states) (ruleAt ranks rows i .children))
+      ≡ namesOnly (productive A) (ruleAt ranks rows i)
+  unfolding namesOnly
+  named-agrees i h =
+      let u : WellFormedRule A (ruleAt ranks rows i) = all-member (w .rules) (rw e at (rule-in ranks rows k i h)) in
+      let few = w .states in
+      ap₂ _&&_ (productive-found (ruleAt ranks rows i .target) (omega (arith, u .target)))
+      (all-agree (member states) (among (productive A)) (ruleAt ranks rows i .children)
+      (λ q m. productive-found q (omega (arith, all-member (u .children) m))))
+
+  pub trimmed-rules : (marks : List Bool)
+      → ((i : ℕ) → i < k → marked marks i
+      ≡ (member states (ruleAt ranks rows i .target) && all (member states) (ruleAt ranks rows i .children)))
+      → map (ruleAt ranks rows) (keep (marked marks) (from 0 k)) ≡ trimmed A .rules
+  unfolding trimmed
+  trimmed-rules marks h =
+      rw e at (marked-rules ranks rows k marks (namesOnly (productive A)) (λ i l. h i l ∙ named-agrees i l))
+
+-- Step 3.
+
+pub stage-low : (n : ℕ) (states finals ranks rows : List ℕ) (k q : ℕ) → List·Memᴰ q (stageIn n states finals ranks rows k .states) → q < n
+unfolding stageIn statesIn
+stage-low n states finals ranks rows k q m = let h = member-from n 0 q (keep-out (member states) (from 0 n) m .0) in omega arith
+
+module _ (n : ℕ) (few : n ≤ 256) (states finals ranks rows : List ℕ) (k : ℕ)
+    (sound : Sound (stageIn n states finals ranks rows k)) (names : List ℕ)
+    (named : (q : ℕ) → q < n → equivalent (below (stageIn n states finals ranks rows k)) q q ≡ true
+    → nameIn names q ≡ firstOf (equivalent (below (stageIn n states finals ranks rows k)) q) (from 0 256)) where
+  abbrev S : Stage
+  S = stageIn n states finals ranks rows k
+
+  pub name-representative : (q : ℕ) → List·Memᴰ q (S .states) → nameIn names q ≡ representative (below S) (S .states) q
+  unfolding equivalent
+  name-representative q m =
+      let r = below-reflexive S sound q m in
+      named q (stage-low n states finals ranks rows k q m) (and-true-in r r) ∙ first-same S sound q m
+
+  pub renamed-rules : map (renamed (nameIn names)) (rulesIn ranks rows k) ≡ map (renamed (representative (below S) (S .states))) (S .rules)
+  unfolding stageIn
+  renamed-rules = renamed-agree (nameIn names) (representative (below S) (S .states)) S sound name-representative
+
+  -- The renamed rows are in range.
+  module _ (next : List ℕ) (room : 10 * k ≤ length rows) (ranged : (i : ℕ) → i < k → RowRanged ranks rows i)
+      (e : rulesIn ranks next k ≡ map (renamed (nameIn names)) (rulesIn ranks rows k)) where
+    origin : (v : Rule) → List·Memᴰ v (rulesIn ranks next k)
+        → (u : Rule) × List·Memᴰ u (S .rules) × (renamed (representative (below S) (S .states)) u ≡ v)
+    unfolding stageIn
+    origin v m = Memᴰ·of-map _ (rulesIn ranks rows k) (rw (e ∙ renamed-rules) at m)
+
+    low : (q : ℕ) → List·Memᴰ q (S .states) → representative (below S) (S .states) q < 256
+    low q m = all-member (sound .low) (quotient-states S sound _ (representative-state S sound q m))
+
+    pub renamed-ranged : (i : ℕ) → i < k → RowRanged ranks next i
+    unfolding renamed stageIn
+    renamed-ranged =
+        ranged-rows ranks next k
+        (λ v m. let (u, n, f) = origin v m in
+        known-like ranks u v (known-rules ranks rows k room ranged u n) (ap (λ (x : Rule). x .symbol) f)
+        (ap (λ (x : Rule). length (x .children)) (sym f) ∙ length-map (u .children) _))
+        (λ v m. let (u, n, f) = origin v m in
+        rw (ap (λ (x : Rule). x .target) f) at (low (u .target) (sound .targets u n)))
+        (λ v m q c. let (u, n, f) = origin v m in
+        let (p, o, g) = Memᴰ·of-map _ (u .children) (rw (sym (ap (λ (x : Rule). x .children) f)) at c) in
+        rw g at (low p (sound .children u n p o)))
+
+    pub grouped-rules : (marks : List Bool) → ((i : ℕ) → i < k → marked marks i ≡ isFirst ranks next i)
+        → map (ruleAt ranks next) (keep (marked marks) (from 0 k)) ≡ quotient (below S) S .rules
+    unfolding quotient isFirst rulesIn
+    grouped-rules marks h =
+        ap (map (ruleAt ranks next)) (keep-agree (marked marks) (isFirst ranks next) (from 0 k)
+        (λ i m. h i (let l = member-from k 0 i m in omega arith)))
+        ∙ firsts-places (ruleAt ranks next) k
+        ∙ ap firsts (e ∙ renamed-rules)
+
+  pub grouped-finals : (set : List ℕ)
+      → Has set (λ (r : ℕ). any (λ (q : ℕ). eqb (nameIn names q) r) (keep (λ (q : ℕ). member finals q && member states q) (from 0 n)))
+      → Has set (among (quotient (below S) S .finals))
+  unfolding stageIn quotient
+  grouped-finals set has r l =
+      has r l ∙ same-bool
+      (λ t. let f = any-out (λ (q : ℕ). eqb (nameIn names q) r) _ t in
+      let m = sound .finals (f .element) (f .member) in
+      let same : representative (below S) (S .states) (f .element) ≡ r =
+      sym (name-representative (f .element) m) ∙ eqb-true (nameIn names (f .element)) r (f .passes) in
+      among-in (keep-in _ (rw same at (quotient-states S sound _ (representative-state S sound (f .element) m)))
+      (any-in _ (f .member) (eq-eqb _ r same))))
+      (λ t. let o = keep-out _ (S .states) (among-out _ r t) in
+      let f = any-out (λ (q : ℕ). eqb (representative (below S) (S .states) q) r) _ (o .1) in
+      any-in (λ (q : ℕ). eqb (nameIn names q) r) (f .member)
+      (eq-eqb (nameIn names (f .element)) r
+      (name-representative (f .element) (sound .finals (f .element) (f .member)) ∙ eqb-true _ r (f .passes))))
+
+-- Step 6.
+
+module _ (n : ℕ) (few : n ≤ 256) (states finals : List ℕ) (S : Stage) (sound : Sound S) (e : statesIn n states ≡ S .states)
+    (has : Has finals (among (S .finals))) (names : List ℕ)
+    (named : (q : ℕ) → q < n → member states q ≡ true → nameIn names q ≡ position (statesIn n states) q) where
+  in-range : (q : ℕ) → List·Memᴰ q (S .states) → (q < n) × (member states q ≡ true)
+  unfolding statesIn
+  in-range q m =
+      let o = keep-out (member states) (from 0 n) (rw (sym e) at m) in
+      let h = member-from n 0 q (o .0) in (omega arith, o .1)
+
+  name-position : (q : ℕ) → List·Memᴰ q (S .states) → nameIn names q ≡ position (S .states) q
+  name-position q m = let r = in-range q m in named q (r .0) (r .1) ∙ ap (λ (xs : List ℕ). position xs q) e
+
+  pub numbered-rules : (ranks : List ℕ) → map (renamed (nameIn names)) (S .rules) ≡ numbered ranks S .rules
+  unfolding numbered
+  numbered-rules ranks = renamed-agree (nameIn names) (position (S .states)) S sound name-position
+
+  finals-are : keep (λ (q : ℕ). member finals q && member states q) (from 0 n) ≡ S .finals
+  finals-are =
+      rising-same _ (S .finals) (rising-keep _ (from-rising 0 n)) (sound .finals-rising)
+      (λ q m. let o = keep-out _ (from 0 n) m in
+      let h = member-from n 0 q (o .0) in
+      among-out (S .finals) q (sym (has q (omega arith)) ∙ and-true-out (member finals q) (member states q) (o .1) .0))
+      (λ q m. let r = in-range q (sound .finals q m) in
+      let h = r .0 in
+      keep-in _ (from-member n 0 q (omega arith) (omega arith)) (and-true-in (has q (omega arith) ∙ among-in m) (r .1)))
+
+  pub numbered-finals : (set : List ℕ) (count : ℕ) → count ≡ length (statesIn n states)
+      → Has set (λ (r : ℕ). any (λ (q : ℕ). eqb (nameIn names q) r) (keep (λ (q : ℕ). member finals q && member states q) (from 0 n)))
+      → statesIn count set ≡ map (position (S .states)) (S .finals)
+  unfolding statesIn among
+  numbered-finals set count c h =
+      let size : count ≡ length (S .states) = c ∙ ap length e in
+      let short = keep-shorter (member states) (from 0 n) in
+      let names-same : map (nameIn names) (S .finals) ≡ map (position (S .states)) (S .finals) =
+      map-agree (nameIn names) (position (S .states)) (S .finals) (λ q m. name-position q (sound .finals q m)) in
+      set-states set (map (position (S .states)) (S .finals)) count (omega (arith, length-from 0 n))
+      (positions-rising (S .states) (sound .rising) (S .finals) (sound .finals-rising) (sound .finals))
+      (λ i m. let (q, o, f) = Memᴰ·of-map (position (S .states)) (S .finals) m in
+      rw (← f, size) (position-low (S .states) (sound .rising) q (sound .finals q o)))
+      (λ r l. h r l ∙ ap (any (λ (q : ℕ). eqb (nameIn names q) r)) finals-are
+      ∙ sym (any-map (λ (i : ℕ). eqb i r) (nameIn names) (S .finals)) ∙ named-among r (map (nameIn names) (S .finals)) _ names-same)
+    where
+      named-among : (r : ℕ) (xs ys : List ℕ) → xs ≡ ys → any (λ (i : ℕ). eqb i r) xs ≡ among ys r
+      named-among r xs ys same = ap (any (λ (i : ℕ). eqb i r)) same
+
+-- Step 5: the kept rules.
+pub restricted-rules : (ranks rows : List ℕ) (k : ℕ) (ranged : (i : ℕ) → i < k → RowRanged ranks rows i) (states : List ℕ) (S : Stage)
+    → rulesIn ranks rows k ≡ S .rules → Has states (among (kept S)) → (marks : List Bool)
+    → ((i : ℕ) → i < k → marked marks i ≡ member states (getD rows (10 * i + 1) 0))
+    → map (ruleAt ranks rows) (keep (marked marks) (from 0 k)) ≡ restricted S .rules
+unfolding restricted ruleAt
+restricted-rules ranks rows k ranged states S e has marks h =
+    rw e at (marked-rules ranks rows k marks (λ (u : Rule). among (kept S) (u .target))
+    (λ i l. h i l ∙ has (getD rows (10 * i + 1) 0) (target-in (ranged i l))))
+  where
+    target-in : {i : ℕ} → RowRanged ranks rows i → getD rows (10 * i + 1) 0 < 256
+    target-in r = rw add-zero at (r .states 0 (omega arith))
+
+-- The rules of the later stages have the symbols of the first one's, so that their rows are in range.
+module _ (ranks : List ℕ) (S : Stage) (sound : Sound S) (known : (u : Rule) → List·Memᴰ u (S .rules) → Known ranks u) where
+  known-quotient : (u : Rule) → List·Memᴰ u (quotient (below S) S .rules) → Known ranks u
+  unfolding quotient renamed
+  known-quotient u m =
+      let (v, n, e) = Memᴰ·of-map _ (S .rules) (firsts-out _ m) in
+      known-like ranks v u (known v n) (ap (λ (x : Rule). x .symbol) e)
+      (ap (λ (x : Rule). length (x .children)) (sym e) ∙ length-map (v .children) _)
+
+  known-pruned : (u : Rule) → List·Memᴰ u (pruned (below S) (quotient (below S) S) .rules) → Known ranks u
+  unfolding pruned
+  known-pruned u m = known-quotient u (keep-out _ (quotient (below S) S .rules) m .0)
+
+  known-shortened : (u : Rule) → List·Memᴰ u (shortened S .rules) → Known ranks u
+  unfolding shortened restricted
+  known-shortened u m = known-pruned u (keep-out _ (pruned (below S) (quotient (below S) S) .rules) m .0)
+
+  module _ (rows : List ℕ) (k : ℕ) where
+    pub ranged-quotient : rulesIn ranks rows k ≡ quotient (below S) S .rules → (i : ℕ) → i < k → RowRanged ranks rows i
+    ranged-quotient e = ranged-stage ranks rows k (quotient (below S) S) (quotient-sound S sound) e known-quotient
+
+    pub ranged-pruned : rulesIn ranks rows k ≡ pruned (below S) (quotient (below S) S) .rules → (i : ℕ) → i < k → RowRanged ranks rows i
+    ranged-pruned e = ranged-stage ranks rows k (pruned (below S) (quotient (below S) S)) (sound-pruned S sound) e known-pruned
+
+    pub ranged-shortened : rulesIn ranks rows k ≡ shortened S .rules → (i : ℕ) → i < k → RowRanged ranks rows i
+    ranged-shortened e = ranged-stage ranks rows k (shortened S) (sound-shortened S sound) e known-shortened
+
+-- The kept states, as a set of states below n.
+pub kept-states-in : (n : ℕ) → n ≤ 256 → (S : Stage) (sound : Sound S) → ((q : ℕ) → List·Memᴰ q (S .states) → q < n)
+    → (words : List ℕ) → Has words (among (kept (pruned (below S) (quotient (below S) S)))) → statesIn n words ≡ shortened S .states
+unfolding shortened restricted pruned
+kept-states-in n few S sound low words has =
+    set-states words (kept (pruned (below S) (quotient (below S) S))) n few (sound-shortened S sound .rising)
+    (λ q m. low q (quotient-states S sound q (kept-states (pruned (below S) (quotient (below S) S)) (sound-pruned S sound) q m))) has

@@ -1,0 +1,75 @@
+-- What only the contracts of inner functions cite; the meaning of the public calls needs none of it.
+use Prim.Native.Nat.{ℕ, _≤_, _<_}
+use mathlib.Core.Path.{_≡_}
+use mathlib.Core.List.{List, [], _∷_, _++_, List·Memᴰ}
+use mathlib.Core.Bool.{Bool, true, false, not, _&&_}
+use lib.ListN.{length, getD}
+use Rattle.automaton.specs.Lists.{All, Rising, all, from, keep}
+use Rattle.automaton.specs.Automaton.{Rule}
+use Rattle.automaton.specs.StateSet.{member}
+use Rattle.automaton.specs.Decoded.{ruleAt}
+use Rattle.automaton.specs.declared.table.Size.{Size}
+use Rattle.simulation.specs.Tree.{any}
+use Rattle.simulation.specs.Words.{statesIn, rulesIn}
+use Rattle.reduction.specs.Steps.{Stage, sameRule}
+use Rattle.reduction.specs.Report.{line, reducedWord, statesWord, rulesWord, roundsWord}
+
+-- The states and the final states rise, and the rules and the final states name no other states than these, all below 256.
+pub record Sound (S : Stage) : Type 0 where
+  pub rising : Rising (S .states)
+  pub low : All (λ (q : ℕ). q < 256) (S .states)
+  pub finals-rising : Rising (S .finals)
+  pub finals : (q : ℕ) → List·Memᴰ q (S .finals) → List·Memᴰ q (S .states)
+  pub targets : (u : Rule) → List·Memᴰ u (S .rules) → List·Memᴰ (u .target) (S .states)
+  pub children : (u : Rule) → List·Memᴰ u (S .rules) → (q : ℕ) → List·Memᴰ q (u .children) → List·Memᴰ q (S .states)
+
+-- A rule whose symbol is below 256 and has a rank of at most 8, and as many children.
+pub record Known (ranks : List ℕ) (u : Rule) : Type 0 where
+  pub symbol : u .symbol < 256
+  pub rank : getD ranks (u .symbol) 0 ≤ 8
+  pub arity : length (u .children) ≡ getD ranks (u .symbol) 0
+
+-- The stage that decoded arrays and sets of states below n hold.
+unfoldable pub stageIn : ℕ → List ℕ → List ℕ → List ℕ → List ℕ → ℕ → Stage
+stageIn n states finals ranks rows k = record {
+  states = statesIn n states;
+  finals = keep (λ (q : ℕ). member finals q && member states q) (from 0 n);
+  rules = rulesIn ranks rows k;
+}
+
+-- The new name of state q stands at place q.
+unfoldable pub nameIn : List ℕ → ℕ → ℕ
+nameIn names q = getD names q 0
+
+-- Mark i of some marks.
+unfoldable pub marked : List Bool → ℕ → Bool
+marked marks i = getD marks i false
+
+-- No rule before rule i is equal to it.
+unfoldable pub isFirst : List ℕ → List ℕ → ℕ → Bool
+isFirst ranks rows i = not (any (λ (j : ℕ). sameRule (ruleAt ranks rows j) (ruleAt ranks rows i)) (from 0 i))
+
+-- A pass over rules that adds the targets of those whose children are all in a set: it adds all of them, and nothing that does not follow.
+pub record TargetsAdded (rules : List Rule) (before after : List ℕ) : Type 0 where
+  pub more : (q : ℕ) → q < 256 → member before q ≡ true → member after q ≡ true
+  pub added : (u : Rule) → List·Memᴰ u rules → all (member before) (u .children) ≡ true → member after (u .target) ≡ true
+  pub only : (test : ℕ → Bool) → ((q : ℕ) → q < 256 → member before q ≡ true → test q ≡ true)
+      → ((u : Rule) → List·Memᴰ u rules → all test (u .children) ≡ true → test (u .target) ≡ true)
+      → (q : ℕ) → q < 256 → member after q ≡ true → test q ≡ true
+
+-- A pass that adds the children of the rules whose target is in a set.
+pub record ChildrenAdded (rules : List Rule) (before after : List ℕ) : Type 0 where
+  pub more : (q : ℕ) → q < 256 → member before q ≡ true → member after q ≡ true
+  pub added : (u : Rule) → List·Memᴰ u rules → member before (u .target) ≡ true
+      → (q : ℕ) → List·Memᴰ q (u .children) → member after q ≡ true
+  pub only : (test : ℕ → Bool) → ((q : ℕ) → q < 256 → member before q ≡ true → test q ≡ true)
+      → ((u : Rule) → List·Memᴰ u rules → test (u .target) ≡ true → (q : ℕ) → List·Memᴰ q (u .children) → test q ≡ true)
+      → (q : ℕ) → q < 256 → member after q ≡ true → test q ≡ true
+
+-- The four lines on a table of one size and a reduced one of another.
+unfoldable pub reducedLines : Size → Size → ℕ → List ℕ
+reducedLines old new rounds =
+    line reducedWord []
+    ++ (line statesWord (old .states ∷ new .states ∷ [])
+    ++ (line rulesWord (old .rules ∷ new .rules ∷ [])
+    ++ line roundsWord (rounds ∷ [])))

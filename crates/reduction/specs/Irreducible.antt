@@ -1,0 +1,23 @@
+-- Demand 3's words on states and rules, of a well-formed table: every state takes part in an accepted tree, no two states simulate each
+-- other, no rule stands twice and no rule is outdone.
+use Prim.Native.Nat.{ℕ, _<_}
+use mathlib.Core.Path.{_≡_}
+use mathlib.Core.List.{List, [], _∷_, List·Memᴰ}
+use mathlib.Core.Bool.{true, false}
+use Rattle.automaton.specs.Automaton.{Rule, Automaton}
+use Rattle.simulation.specs.Run.{Useful}
+use Rattle.simulation.specs.Simulation.{related}
+use Rattle.simulation.specs.Query.{simulationOf}
+use Rattle.reduction.specs.Steps.{dominated}
+
+-- No element stands twice.
+pub data Distinct {A : Type 0} : List A → Type 0 where
+  none : Distinct []
+  also : {x : A} {xs : List A} → (List·Memᴰ x xs → ⊥) → Distinct xs → Distinct (x ∷ xs)
+
+-- ≤ is that of the table itself.
+pub record Irreducible (A : Automaton) : Type 0 where
+  pub useful : (q : ℕ) → q < A .states → Useful A q
+  pub antisymmetric : (q r : ℕ) → related (simulationOf A) q r ≡ true → related (simulationOf A) r q ≡ true → q ≡ r
+  pub distinct : Distinct (A .rules)
+  pub undominated : (u : Rule) → List·Memᴰ u (A .rules) → dominated (simulationOf A) (A .rules) u ≡ false

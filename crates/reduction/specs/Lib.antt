@@ -1,0 +1,5 @@
+pub mod Steps
+pub mod Reduce
+pub mod Irreducible
+pub mod Report
+pub mod Inner

@@ -1,0 +1,49 @@
+-- Reduction: the six steps one after the other, and what the call answers.
+use Prim.Native.Nat.{ℕ}
+use mathlib.Core.List.{List}
+use lib.ListN.{length}
+use Rattle.automaton.specs.Automaton.{Automaton}
+use Rattle.automaton.specs.Refusal.{numberOf}
+use Rattle.automaton.specs.Read.{Read, found, refused, _>>=_}
+use Rattle.automaton.specs.Table.{judge, encode}
+use Rattle.automaton.specs.Decoded.{written, writtenOver}
+use Rattle.reduction.specs.Steps.{Stage, trimmed, below, roundsIn, quotient, pruned, restricted, numbered}
+use Rattle.reduction.specs.declared.reducing.Reduction.{Reduction}
+use Rattle.reduction.specs.declared.reducing.Reduced.{Reduced}
+use Rattle.reduction.specs.declared.reducing.Reduced.the-variants as answers
+
+-- What steps 2 to 5 leave of a remainder; and the whole reduction, whose table `encode` writes.
+unfoldable pub shortened : Stage → Stage
+shortened S = restricted (pruned (below S) (quotient (below S) S))
+
+unfoldable pub reduce : Automaton → Automaton
+reduce A = numbered (A .ranks) (shortened (trimmed A))
+
+-- The rounds of step 2.
+unfoldable pub reductionRounds : Automaton → ℕ
+reductionRounds A = roundsIn (trimmed A)
+
+-- The values and document 01's number for each case of the code's answer: the length, the old and new n and k, the rounds; or the
+-- refusal.
+unfoldable pub reductionOf : Reduced → Read Reduction
+reductionOf (answers.Table r) = found r
+reductionOf (answers.Refused cause) = refused (numberOf cause)
+
+-- The table is judged before the output; 13 where that is shorter than the reduced table.
+unfoldable pub reduction : List ℕ → List ℕ → Read Reduction
+reduction table out = do
+  A ← judge table
+  size ← written (encode (reduce A)) out
+  found (record {
+    length = size;
+    «old_states» = A .states;
+    «new_states» = reduce A .states;
+    «old_rules» = length (A .rules);
+    «new_rules» = length (reduce A .rules);
+    rounds = reductionRounds A;
+  })
+
+-- The output afterwards: the reduced table, with the old bytes behind it; a refusal, 13 too, leaves it.
+unfoldable pub reductionAfter : Read Automaton → List ℕ → List ℕ
+reductionAfter (found A) out = writtenOver (encode (reduce A)) out
+reductionAfter (refused cause) out = out

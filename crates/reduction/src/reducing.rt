@@ -1,0 +1,58 @@
+// Reducing a table.
+ghost use mathlib.Core.Path.{_≡_};
+ghost use Rattle.automaton.specs.Table.{judge};
+ghost use Rattle.reduction.specs.Reduce.{reductionOf, reduction, reductionAfter};
+use crate::steps::reduce_rows;
+use automaton::Judged;
+use automaton::Refusal;
+use automaton::Written;
+use automaton::decode;
+use automaton::write;
+
+// The length of the reduced table, the states and rules of the table and of the reduced one, and the rounds of step 2, which are those of
+// the simulation on what step 1 leaves.
+pub struct Reduction {
+    pub length: usize,
+    pub old_states: usize,
+    pub new_states: usize,
+    pub old_rules: usize,
+    pub new_rules: usize,
+    pub rounds: usize,
+}
+
+pub enum Reduced {
+    Table(Reduction),
+    Refused(Refusal),
+}
+
+// Writes the reduced table to the start of `out`. Refuses a table as `decode` does, and an `out` that is too short with 13; a refusal
+// leaves `out` as it is.
+pub fn reduce(table: &[u8], out: &mut [u8]) -> Reduced
+    ensures { λ r. ⌜ reductionOf r ≡ reduction (now (table .entry)) (now (out .entry)) ⌝ }
+    ensures { λ r. ⌜ now (out .exit) ≡ reductionAfter (judge (now (table .entry))) (now (out .entry)) ⌝ }
+{
+    let mut ranks: [u8; 256] = [0; 256];
+    let mut rows: [u16; 10240] = [0; 10240];
+    let decoded = decode(table, &mut ranks, &mut rows);
+    let finals = decoded.finals;
+    let judged = decoded.judged;
+    match judged {
+        Judged::Refused(cause) => Reduced::Refused(cause),
+        Judged::Table(size) => {
+            let short = reduce_rows(size, finals, &ranks, &mut rows);
+            let left = short.size;
+            let left_finals = short.finals;
+            match write(left, left_finals, &ranks, &rows, out) {
+                Written::Refused(cause) => Reduced::Refused(cause),
+                Written::Bytes(length) => Reduced::Table(Reduction {
+                    length,
+                    old_states: size.states,
+                    new_states: left.states,
+                    old_rules: size.rules,
+                    new_rules: left.rules,
+                    rounds: short.rounds,
+                }),
+            }
+        }
+    }
+}
