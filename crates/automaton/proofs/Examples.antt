@@ -24,12 +24,12 @@ T = record {
       ∷ rule 2 3 (0 ∷ 2 ∷ []) ∷ rule 2 3 (1 ∷ 2 ∷ []) ∷ rule 2 3 (2 ∷ 2 ∷ []) ∷ rule 2 4 (4 ∷ 0 ∷ []) ∷ [];
 }
 
-T-encoded : (length (encode T) ≡ 125) × (take 12 (encode T) ≡ 8 ∷ 0 ∷ 0 ∷ 0 ∷ 1 ∷ 0 ∷ 5 ∷ 0 ∷ 3 ∷ 0 ∷ 8 ∷ 0 ∷ [])
+pub T-encoded : (length (encode T) ≡ 125) × (take 12 (encode T) ≡ 8 ∷ 0 ∷ 0 ∷ 0 ∷ 1 ∷ 0 ∷ 5 ∷ 0 ∷ 3 ∷ 0 ∷ 8 ∷ 0 ∷ [])
 unfolding encode encodeRules encodeRule encodeRecord fields bytes2 bytes4
 T-encoded = (refl, refl)
 
 -- The whole table, and the table without its last byte.
-T-judged : (judge (encode T) ≡ found T) × (judge (take 124 (encode T)) ≡ refused 1)
+pub T-judged : (judge (encode T) ≡ found T) × (judge (take 124 (encode T)) ≡ refused 1)
 unfolding encode encodeRules encodeRule encodeRecord fields bytes2 bytes4 judge judgeRanks judgeFinals judgeRules judgeRule
     ruleIn due dueIn opened isWhole endOf bodyIn bodyOf number2 number4 numbers all rising risingFrom _>>=_ _>>_ check
 T-judged = (refl, refl)

@@ -1,5 +1,6 @@
 pub mod Examples
 pub mod Elements
+pub mod Keeping
 pub mod Opening
 pub mod Answered
 pub mod Fields

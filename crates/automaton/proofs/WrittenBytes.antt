@@ -21,6 +21,7 @@ use Rattle.automaton.specs.Decoded.{ruleAt, automatonIn, written, writte
 use Rattle.automaton.specs.Inner.{over, RowFits}
 use Rattle.automaton.specs.declared.table.Size.{Size}
 use Rattle.automaton.proofs.Elements.{all-at}
+use Rattle.automaton.proofs.Keeping.{keep-append}
 use Rattle.automaton.proofs.Fields.{length-fields}
 use Rattle.automaton.proofs.Records.{length-record}
 
@@ -147,17 +148,6 @@ pub length-from : (i n : ℕ) → length (from i n) ≡ n
 unfolding from
 length-from i zero = refl
 length-from i (suc n) = ap suc (length-from (suc i) n)
-
-pub keep-append : (test : ℕ → Bool) (us vs : List ℕ) → keep test (us ++ vs) ≡ keep test us ++ keep test vs
-unfolding keep
-keep-append test [] vs = refl
-keep-append test (u ∷ us) vs = go (test u) (keep-append test us vs)
-  where
-    go : (b : Bool) → keep test (us ++ vs) ≡ keep test us ++ keep test vs
-        → cond b (u ∷ keep test (us ++ vs)) (keep test (us ++ vs))
-        ≡ cond b (u ∷ keep test us) (keep test us) ++ keep test vs
-    go true e = ap (λ (l : List ℕ). u ∷ l) e
-    go false e = e
 
 length-keep : (test : ℕ → Bool) (vs : List ℕ) → length (keep test vs) ≤ length vs
 unfolding keep

@@ -1,28 +1,27 @@
 -- The six steps put together. Steps 3 to 6 are a simulation there, from what step 1 leaves to the reduced automaton, and one back; so
--- both reach the same trees, and the reduced automaton's ≤ is that of the representatives.
+-- both reach the same trees, and the ≤ of the reduced automaton lies within that of the representatives.
 use Prim.Native.Nat.{ℕ, _<_}
 use mathlib.Core.Path.{_≡_, refl, sym, ap, _∙_}
-use mathlib.Core.Logic.{_↔_}
-use mathlib.Core.List.{List, [], _∷_, map, List·Memᴰ, List·Memᴰ·head, List·Memᴰ·tail, Memᴰ·cast, Memᴰ·map, Memᴰ·of-map}
-use mathlib.Core.Bool.{Bool, true, false, not, _&&_, true≢false}
+use mathlib.Core.List.{List, [], _∷_, map, List·Memᴰ, List·Memᴰ·head, List·Memᴰ·tail, Memᴰ·map, Memᴰ·of-map}
+use mathlib.Core.Bool.{Bool, true, false, not, true≢false}
 use lib.Dec.{eqb}
 use borrow.Author.Tests.{eq-eqb, eqb-true}
 use Rattle.automaton.specs.Automaton.{Rule, Automaton, WellFormed}
+use Rattle.automaton.proofs.Keeping.{keep-in, keep-out}
 use Rattle.simulation.specs.Tree.{Tree}
 use Rattle.simulation.specs.Run.{Reaches, Accepts, Useful}
-use Rattle.simulation.specs.Simulation.{Each, none, also, Matched, Simulates, Relation, related, matches, paired}
+use Rattle.simulation.specs.Simulation.{Each, none, also, Simulates, matches}
 use Rattle.simulation.specs.Query.{simulationOf}
 use Rattle.simulation.proofs.Search.{and-true-in, and-true-out, any-in, any-out}
 use Rattle.simulation.proofs.Refinement.{Within, paired-each, each-paired}
-use Rattle.simulation.proofs.Maximality.{matched-map}
-use Rattle.simulation.proofs.Language.{each-compose, simulates-reaches, simulates-compose}
-use Rattle.simulation.proofs.Preorder.{preorder-simulates, preorder-largest, preorder-states}
-use Rattle.reduction.specs.Steps.{Stage, productive, trimmed, below, representative, quotient, dominatedBy, dominated, pruned, kept, restricted}
+use Rattle.simulation.proofs.Language.{each-map, each-compose, simulates-reaches, simulates-compose}
+use Rattle.simulation.proofs.Preorder.{preorder-simulates, preorder-states}
+use Rattle.reduction.specs.Steps.{Stage, trimmed, below, representative, quotient, dominatedBy, dominated, pruned, kept, restricted}
 use Rattle.reduction.specs.Steps.{renamed, sameStates, position, numbered}
 use Rattle.reduction.specs.Reduce.{shortened, reduce}
 use Rattle.reduction.specs.Irreducible.{Distinct, Irreducible}
 use Rattle.reduction.specs.Inner.{Sound}
-use Rattle.reduction.proofs.Members.{keep-in, keep-out, among-in, among-out, same-states-out, same-states-refl}
+use Rattle.reduction.proofs.Members.{among-in, among-out, same-states-out, same-states-refl}
 use Rattle.reduction.proofs.Trimming.{productive-reached, reached-productive, trimmed-sound, trimmed-reaches, reaches-trimmed}
 use Rattle.reduction.proofs.Quotient as quot
 use Rattle.reduction.proofs.Firsts.{keep-distinct}
@@ -32,10 +31,6 @@ use Rattle.reduction.proofs.Numbering as numbering
 use Rattle.reduction.proofs.Soundness.{quotient-reflexive, sound-pruned, sound-shortened}
 use Rattle.reduction.proofs.Counting.{reduce-well-formed}
 use Rattle.reduction.proofs.Usefulness.{useful-final, useful-child}
-
-each-member-map : {D E : ℕ → ℕ → Type 0} {qs rs : List ℕ} → Each D qs rs → ((q r : ℕ) → List·Memᴰ q qs → D q r → E q r) → Each E qs rs
-each-member-map none f = none
-each-member-map (also d ds) f = also (f _ _ (List·Memᴰ·head refl) d) (each-member-map ds (λ q r m. f q r (List·Memᴰ·tail m)))
 
 -- Steps 3 to 6, from a stage whose rules name only its states.
 module _ (ranks : List ℕ) (S : Stage) (sound : Sound S) where
@@ -55,12 +50,9 @@ module _ (ranks : List ℕ) (S : Stage) (sound : Sound S) where
         is-rule = back .is-rule;
         target = back .target;
         symbol = there .symbol ∙ back .symbol;
-        children = each-member-map (each-compose (there .children) (back .children))
-            (λ c d n (s, h, (ms, f)). (
-              quot.quotient-sound S sound .children u m c n,
-              rw f (quot.representative-state S sound s ms),
-              quot.below-transitive S sound c s d h (rw f (quot.below-representative S sound s ms)),
-            ));
+        children = pruning.each-inside (each-map (each-compose (there .children) (back .children))
+            (λ c d (s, h, (ms, f)). quot.below-transitive S sound c s d h (rw f (quot.below-representative S sound s ms))))
+            (quot.quotient-sound S sound .children u m) (quot.quotient-sound S sound .children (back .rule) (back .is-rule));
       }
 
   -- A state that is left goes to the number of a kept state above its representative, and back to each state above the kept one.
@@ -111,7 +103,7 @@ module _ (ranks : List ℕ) (S : Stage) (sound : Sound S) where
   unfolding shortened restricted pruned
   kept-representative y m = restricting.kept-states (pruned (below S) (quotient (below S) S)) (sound-pruned S sound) y m
 
-  pub kept-left : (y : ℕ) → List·Memᴰ y (shortened S .states) → List·Memᴰ y (S .states)
+  kept-left : (y : ℕ) → List·Memᴰ y (shortened S .states) → List·Memᴰ y (S .states)
   kept-left y m = quot.quotient-states S sound y (kept-representative y m)
 
   into-kept : (q : ℕ) → List·Memᴰ q (S .states) → List·Memᴰ (representative (below S) (S .states) q) (shortened S .states)
@@ -132,20 +124,20 @@ module _ (ranks : List ℕ) (S : Stage) (sound : Sound S) where
   from-kept y x k h = (y, (k, refl), (y, refl, (y, refl, h)))
 
   -- Trees reach a kept state and its number alike.
-  pub reaches-number : (t : Tree) (q : ℕ) → List·Memᴰ q (S .states) → List·Memᴰ (representative (below S) (S .states) q) (shortened S .states)
+  reaches-number : (t : Tree) (q : ℕ) → List·Memᴰ q (S .states) → List·Memᴰ (representative (below S) (S .states) q) (shortened S .states)
       → Reaches (S .rules) t q → Reaches (numbered ranks (shortened S) .rules) t (position (shortened S .states) (representative (below S) (S .states) q))
   reaches-number t q m k = simulates-reaches (S .rules) (numbered ranks (shortened S) .rules) Into into-simulates t q _ (into-kept q m k)
 
-  pub reaches-self : (t : Tree) (y : ℕ) → List·Memᴰ y (shortened S .states)
+  reaches-self : (t : Tree) (y : ℕ) → List·Memᴰ y (shortened S .states)
       → Reaches (S .rules) t y → Reaches (numbered ranks (shortened S) .rules) t (position (shortened S .states) y)
   reaches-self t y k = simulates-reaches (S .rules) (numbered ranks (shortened S) .rules) Into into-simulates t y _ (into-self y k)
 
-  pub number-reaches : (t : Tree) (y x : ℕ) → List·Memᴰ y (shortened S .states) → Within (below S) y x
+  number-reaches : (t : Tree) (y x : ℕ) → List·Memᴰ y (shortened S .states) → Within (below S) y x
       → Reaches (numbered ranks (shortened S) .rules) t (position (shortened S .states) y) → Reaches (S .rules) t x
   number-reaches t y x k h = simulates-reaches (numbered ranks (shortened S) .rules) (S .rules) From from-simulates t _ x (from-kept y x k h)
 
-  -- A simulation of the numbered automaton is within ≤, and ≤ between kept states is one.
-  pub number-below : (D : ℕ → ℕ → Type 0) → Simulates (numbered ranks (shortened S) .rules) (numbered ranks (shortened S) .rules) D
+  -- A simulation of the numbered automaton is within ≤.
+  number-below : (D : ℕ → ℕ → Type 0) → Simulates (numbered ranks (shortened S) .rules) (numbered ranks (shortened S) .rules) D
       → (y z : ℕ) → List·Memᴰ y (shortened S .states) → List·Memᴰ z (shortened S .states)
       → D (position (shortened S .states) y) (position (shortened S .states) z) → Within (below S) y z
   unfolding Into From
@@ -165,21 +157,12 @@ module _ (ranks : List ℕ) (S : Stage) (sound : Sound S) where
         ),
       )
 
-  Through : ℕ → ℕ → Type 0
-  Through i j = (x : ℕ) × From i x × Into x j
-
-  through-simulates : Simulates (numbered ranks (shortened S) .rules) (numbered ranks (shortened S) .rules) Through
-  unfolding Through
-  through-simulates =
-      let B : List Rule = numbered ranks (shortened S) .rules in
-      simulates-compose B (S .rules) B From Into from-simulates into-simulates
-
-not-true : {t : Bool} → (t ≡ true → ⊥) → t ≡ false
-not-true {t = true} h = absurd (h refl)
-not-true {t = false} h = refl
+never-true : {t : Bool} → (t ≡ true → ⊥) → t ≡ false
+never-true {t = true} h = absurd (h refl)
+never-true {t = false} h = refl
 
 not-in : {t : Bool} → (t ≡ true → ⊥) → not t ≡ true
-not-in h = rw (not-true h)
+not-in h = rw (never-true h)
 
 not-out : {t : Bool} → not t ≡ true → t ≡ true → ⊥
 not-out {t = true} h e = true≢false (sym h)
@@ -215,18 +198,6 @@ module _ (A : Automaton) (w : WellFormed A) where
   unfolding reduce place IsKept
   related-below =
       number-below (A .ranks) (trimmed A) sound (Within (simulationOf (reduce A))) (preorder-simulates (reduce A) well)
-
-  below-related : (y z : ℕ) → IsKept y → IsKept z → Within (below (trimmed A)) y z → Within (simulationOf (reduce A)) (place y) (place z)
-  unfolding reduce place IsKept Through Into From Placed
-  below-related y z ky kz h =
-      preorder-largest (reduce A) well (Through (A .ranks) (trimmed A) sound)
-      (through-simulates (A .ranks) (trimmed A) sound)
-      (λ i j (x, a, b). (
-        rw (a .1 .1) (place-low _ (a .1 .0)),
-        rw (b .2 .2 .2 .1) (place-low _ (b .2 .2 .2 .0)),
-      ))
-      (place y) (place z)
-      (z, from-kept (A .ranks) (trimmed A) sound y z ky h, into-self (A .ranks) (trimmed A) sound z kz)
 
   antisymmetric : (i j : ℕ) → Within (simulationOf (reduce A)) i j → Within (simulationOf (reduce A)) j i → i ≡ j
   unfolding IsKept
@@ -376,7 +347,7 @@ module _ (A : Automaton) (w : WellFormed A) where
 
   undominated : (v : Rule) → List·Memᴰ v (reduce A .rules) → dominated (simulationOf (reduce A)) (reduce A .rules) v ≡ false
   unfolding dominated stage4
-  undominated v m = not-true (λ h.
+  undominated v m = never-true (λ h.
       let (u, mu, ku, eu) = rule-kept v m in
       let f = any-out (dominatedBy (simulationOf (reduce A)) v) (reduce A .rules) h in
       let (x, mx, kx, ex) = rule-kept (f .element) (f .member) in

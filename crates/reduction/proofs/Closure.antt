@@ -7,8 +7,9 @@ use mathlib.Core.List.{List, [], _∷_, List·Memᴰ, List·Memᴰ·head, List·
 use mathlib.Core.Bool.{Bool, true, false, cond, false≢true}
 use lib.ListN.{length}
 use Rattle.automaton.specs.Lists.{Rising, empty, keep}
+use Rattle.automaton.proofs.Keeping.{keep-in, keep-out, keep-shorter}
 use Rattle.reduction.specs.Steps.{foundIn, closure}
-use Rattle.reduction.proofs.Members.{keep-in, keep-out, keep-shorter, rising-keep}
+use Rattle.reduction.proofs.Members.{rising-keep}
 
 -- With more states found before, the test finds no fewer.
 unfoldable pub Monotone : (List ℕ → ℕ → Bool) → Type 0
@@ -16,7 +17,7 @@ Monotone test =
     (xs ys : List ℕ) → ((p : ℕ) → List·Memᴰ p xs → List·Memᴰ p ys) → (q : ℕ) → test xs q ≡ true → test ys q ≡ true
 
 -- What a weaker test keeps is the same or longer.
-pub keep-grows : {A : Type 0} (f g : A → Bool) (xs : List A) → ((x : A) → List·Memᴰ x xs → f x ≡ true → g x ≡ true)
+keep-grows : {A : Type 0} (f g : A → Bool) (xs : List A) → ((x : A) → List·Memᴰ x xs → f x ≡ true → g x ≡ true)
     → (keep g xs ≡ keep f xs) ⊎ (length (keep f xs) < length (keep g xs))
 unfolding keep
 keep-grows f g [] h = inl refl
@@ -98,7 +99,7 @@ module _ (test : List ℕ → ℕ → Bool) (states : List ℕ) where
         go (inr l) (inl e) = inl e
         go (inr l) (inr m) = inr (omega arith)
 
-    pub closure-fixed : keep (test (closure test states)) states ≡ closure test states
+    closure-fixed : keep (test (closure test states)) states ≡ closure test states
     unfolding closure foundIn
     closure-fixed = go (settled-or-long (length states))
       where

@@ -11,9 +11,9 @@ use Rattle.automaton.specs.Decoded.{ruleAt}
 use Rattle.automaton.specs.Inner.{over}
 use Rattle.automaton.proofs.WrittenBytes.{over-nil, over-then, keep-step, kept-few}
 use Rattle.automaton.proofs.WrittenBytes as written
+use Rattle.automaton.proofs.Keeping.{keep-out}
 use Rattle.simulation.specs.Words.{rulesIn}
 use Rattle.simulation.proofs.Ranges.{member-from}
-use Rattle.reduction.proofs.Members.{keep-out}
 use Rattle.reduction.proofs.Overwriting.{over-from, over-rest, length-part, rowAt, row-decides}
 
 -- Some rows, one behind the other.

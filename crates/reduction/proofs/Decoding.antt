@@ -1,7 +1,7 @@
 -- A decoded table through all six steps: what step 1 leaves in the arrays is the trimmed stage, and what step 6 leaves is the reduced automaton.
 use Prim.Native.Nat.{ℕ, _≤_, _<_}
 use native.Mathlib.Omega.{arith}
-use mathlib.Core.Path.{_≡_, refl, sym, ap, _∙_}
+use mathlib.Core.Path.{_≡_, sym, ap, _∙_}
 use mathlib.Core.List.{List, map, List·Memᴰ}
 use mathlib.Core.Bool.{_&&_}
 use lib.ListN.{length, take, getD, length-take}
@@ -12,15 +12,14 @@ use Rattle.automaton.specs.StateSet.{member}
 use Rattle.automaton.specs.Decoded.{automatonIn}
 use Rattle.automaton.specs.declared.table.Size.{Size}
 use Rattle.automaton.proofs.Encoding.{children-few}
+use Rattle.automaton.proofs.Keeping.{keep-agree, keep-both, keep-out}
 use Rattle.simulation.specs.Words.{statesIn, rulesIn}
 use Rattle.simulation.specs.Inner.{RowRanged, Has}
 use Rattle.simulation.proofs.Ranges.{member-from}
 use Rattle.simulation.proofs.Preorder.{all-member}
-use Rattle.reduction.specs.Steps.{Stage, among, productive, trimmed, position, numbered}
+use Rattle.reduction.specs.Steps.{among, productive, trimmed, position, numbered}
 use Rattle.reduction.specs.Reduce.{shortened, reduce}
-use Rattle.reduction.specs.Inner.{Sound, Known, stageIn}
-use Rattle.reduction.proofs.Members.{keep-out, keep-agree}
-use Rattle.reduction.proofs.Firsts.{keep-both}
+use Rattle.reduction.specs.Inner.{Known, stageIn}
 use Rattle.reduction.proofs.Closure.{closure-states}
 use Rattle.reduction.proofs.Trimming.{trimmed-sound}
 use Rattle.reduction.proofs.Staged.{set-states, ranged-stage}

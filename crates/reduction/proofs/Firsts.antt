@@ -7,11 +7,12 @@ use mathlib.Core.List.{List, [], _∷_, _++_, map, List·Memᴰ, List·Memᴰ·h
 use mathlib.Core.Bool.{Bool, true, false, cond, not, _&&_, _||_, false≢true}
 use Rattle.automaton.specs.Lists.{from, keep}
 use Rattle.automaton.specs.Automaton.{Rule}
+use Rattle.automaton.proofs.Keeping.{keep-both, keep-agree, keep-all, keep-in, keep-out}
 use Rattle.simulation.specs.Tree.{any}
 use Rattle.simulation.proofs.Ranges.{from-append}
 use Rattle.reduction.specs.Steps.{sameRule, firsts}
 use Rattle.reduction.specs.Irreducible.{Distinct, none, also}
-use Rattle.reduction.proofs.Members.{keep-in, keep-out, keep-all, keep-agree, same-rule-out, same-rule-refl}
+use Rattle.reduction.proofs.Members.{same-rule-out, same-rule-refl}
 
 -- Whether a rule differs from the one that stays.
 abbrev differs : Rule → Rule → Bool
@@ -62,22 +63,6 @@ firsts-same (u ∷ us) (also h d) =
     go v m false e = refl
 
 -- The first ones by their places: those that no element before them is equal to.
-
-pub keep-both : {A : Type 0} (f g : A → Bool) (xs : List A) → keep f (keep g xs) ≡ keep (λ (x : A). g x && f x) xs
-unfolding keep
-keep-both f g [] = refl
-keep-both {A} f g (x ∷ xs) = go (g x) (keep-both f g xs)
-  where
-    go : (t : Bool) → keep f (keep g xs) ≡ keep (λ (y : A). g y && f y) xs
-        → keep f (cond t (x ∷ keep g xs) (keep g xs))
-        ≡ cond (t && f x) (x ∷ keep (λ (y : A). g y && f y) xs) (keep (λ (y : A). g y && f y) xs)
-    go true e = ap (λ (l : List A). cond (f x) (x ∷ l) l) e
-    go false e = e
-
-pub any-map : {A B : Type 0} (test : B → Bool) (f : A → B) (xs : List A) → any test (map f xs) ≡ any (λ (x : A). test (f x)) xs
-unfolding any
-any-map test f [] = refl
-any-map test f (x ∷ xs) = ap (λ (t : Bool). test (f x) || t) (any-map test f xs)
 
 any-append : {A : Type 0} (test : A → Bool) (xs ys : List A) → any test (xs ++ ys) ≡ (any test xs || any test ys)
 unfolding any

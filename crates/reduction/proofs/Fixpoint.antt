@@ -11,6 +11,7 @@ use borrow.Author.Tests.{eq-eqb}
 use Rattle.automaton.specs.Lists.{Rising, from}
 use Rattle.automaton.specs.Automaton.{Rule, Automaton, WellFormed, WellFormedRule}
 use Rattle.automaton.proofs.WrittenBytes.{length-from}
+use Rattle.automaton.proofs.Keeping.{keep-all}
 use Rattle.simulation.specs.Run.{Run, Runs, at, none, also, root, roots, treeOf, IsRun, AreRuns, Occurs, OccursIn, Useful}
 use Rattle.simulation.specs.Simulation.{Relation}
 use Rattle.simulation.specs.Query.{simulationOf}
@@ -22,7 +23,7 @@ use Rattle.reduction.specs.Steps.{quotient, dominated, pruned, kept, res
 use Rattle.reduction.specs.Reduce.{shortened, reduce}
 use Rattle.reduction.specs.Irreducible.{Irreducible}
 use Rattle.reduction.specs.Inner.{Sound}
-use Rattle.reduction.proofs.Members.{keep-all, among-in, all-in, rising-same}
+use Rattle.reduction.proofs.Members.{among-in, all-in, rising-same}
 use Rattle.reduction.proofs.Closure.{closure-states}
 use Rattle.reduction.proofs.Trimming.{reached-productive, trimmed-sound}
 use Rattle.reduction.proofs.Firsts.{firsts-same}

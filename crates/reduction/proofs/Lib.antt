@@ -24,5 +24,6 @@ pub mod Staged
 pub mod Stepping
 pub mod Decoding
 pub mod Rewritten
+pub mod Delivered
 pub mod Theorems
 pub mod Examples

@@ -12,6 +12,7 @@ use Rattle.automaton.specs.Lists.{Rising, all, from}
 use Rattle.automaton.specs.Automaton.{Rule}
 use Rattle.automaton.specs.Decoded.{ruleAt}
 use Rattle.automaton.proofs.StateSets.{same-test}
+use Rattle.automaton.proofs.Keeping.{keep-in}
 use Rattle.simulation.specs.Tree.{any}
 use Rattle.simulation.specs.Simulation.{Relation, matches}
 use Rattle.simulation.specs.Words.{rulesIn, relationWords}
@@ -23,7 +24,7 @@ use Rattle.simulation.proofs.Walks.{Walk, Keyed, walk-from, turn, walk-end}
 use Rattle.simulation.proofs.Queries.{and-left}
 use Rattle.reduction.specs.Steps.{sameStates, sameRule, dominatedBy, dominated}
 use Rattle.reduction.specs.Inner.{isFirst}
-use Rattle.reduction.proofs.Members.{keep-in, rising-rest, rising-above, rising-keep, same-rule-out, same-rule-refl}
+use Rattle.reduction.proofs.Members.{rising-rest, rising-above, rising-keep, same-rule-out, same-rule-refl}
 
 -- The target of a row and its children behind it.
 row-states : (rows : List ℕ) (i rank : ℕ) → 10 * i + 1 < length rows
@@ -138,7 +139,7 @@ module _ (ranks rows : List ℕ) (k i : ℕ) where
             let high = behind i b (same-rule-refl (ruleAt ranks rows i)) in
             absurd (true≢false (sym (any-in same (from-member i 0 (l - 1) (omega arith) (omega arith)) is) ∙ f))
 
-  -- Rule j, if its target is that of rule i, dominatedBy rule i.
+  -- Rule j, if its target is that of rule i, dominates rule i.
   abbrev better : Relation → ℕ → Bool
   better R j =
       matches R (ruleAt ranks rows i) (ruleAt ranks rows j)

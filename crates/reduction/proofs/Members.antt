@@ -1,78 +1,16 @@
--- What is kept of a list, its members and its order; tests of states and rules as facts.
-use Prim.Native.Nat.{ℕ, zero, suc, _+_, _≤_, _<_}
+-- Tests of states and rules as facts, and rising lists, which their members determine.
+use Prim.Native.Nat.{ℕ, _<_}
 use native.Mathlib.Omega.{arith}
 use mathlib.Core.Path.{_≡_, refl, sym, ap, ap₂, _∙_}
-use mathlib.Core.Logic.{_⊎_, inl, inr}
-use mathlib.Core.List.{List, [], _∷_, map, List·Memᴰ, List·Memᴰ·head, List·Memᴰ·tail, List·Memᴰ·not-nil, Memᴰ·cast}
-use mathlib.Core.Bool.{Bool, true, false, cond, not, _&&_, _||_, true≢false, false≢true}
-use lib.ListN.{length}
+use mathlib.Core.List.{List, [], _∷_, List·Memᴰ, List·Memᴰ·head, List·Memᴰ·tail, List·Memᴰ·not-nil, Memᴰ·cast}
+use mathlib.Core.Bool.{Bool, true, false, cond, false≢true}
 use lib.Dec.{eqb}
-use borrow.Author.Tests.{eq-eqb, eqb-true, eqb-false, ne-eqb}
-use Rattle.automaton.specs.Lists.{All, none, also, Rising, empty, single, step, all, from, keep}
+use borrow.Author.Tests.{eq-eqb, eqb-true}
+use Rattle.automaton.specs.Lists.{Rising, empty, single, step, all, keep}
 use Rattle.automaton.specs.Automaton.{Rule}
-use Rattle.simulation.specs.Tree.{any}
+use Rattle.automaton.proofs.Keeping.{keep-out}
 use Rattle.simulation.proofs.Search.{and-true-in, and-true-out, any-in, any-out}
 use Rattle.reduction.specs.Steps.{among, sameStates, sameRule}
-
--- Keeping.
-
-module _ {A : Type 0} (test : A → Bool) where
-  pub keep-in : {x : A} {xs : List A} → List·Memᴰ x xs → test x ≡ true → List·Memᴰ x (keep test xs)
-  unfolding keep
-  keep-in {x} (List·Memᴰ·head {x = y} {xs = xs} e) h =
-      let passes : test y ≡ true = ap test (sym e) ∙ h in
-      rw passes (List·Memᴰ·head e)
-  keep-in {x} (List·Memᴰ·tail {x = y} {xs = xs} m) h = go (test y) (keep-in m h)
-    where
-      go : (t : Bool) → List·Memᴰ x (keep test xs) → List·Memᴰ x (cond t (y ∷ keep test xs) (keep test xs))
-      go true n = List·Memᴰ·tail n
-      go false n = n
-
-  pub keep-out : (xs : List A) {x : A} → List·Memᴰ x (keep test xs) → List·Memᴰ x xs × (test x ≡ true)
-  unfolding keep
-  keep-out [] m = absurd (List·Memᴰ·not-nil m)
-  keep-out (y ∷ ys) {x} m = go (test y) refl (keep-out ys) m
-    where
-      later : List·Memᴰ x ys × (test x ≡ true) → List·Memᴰ x (y ∷ ys) × (test x ≡ true)
-      later r = (List·Memᴰ·tail (r .0), r .1)
-
-      go : (t : Bool) → test y ≡ t → (List·Memᴰ x (keep test ys) → List·Memᴰ x ys × (test x ≡ true))
-          → List·Memᴰ x (cond t (y ∷ keep test ys) (keep test ys)) → List·Memᴰ x (y ∷ ys) × (test x ≡ true)
-      go true e rest (List·Memᴰ·head f) = (List·Memᴰ·head f, ap test f ∙ e)
-      go true e rest (List·Memᴰ·tail n) = later (rest n)
-      go false e rest n = later (rest n)
-
-  pub keep-all : (xs : List A) → ((x : A) → List·Memᴰ x xs → test x ≡ true) → keep test xs ≡ xs
-  unfolding keep
-  keep-all [] h = refl
-  keep-all (x ∷ xs) h =
-      rw (h x (List·Memᴰ·head refl), keep-all xs (λ y m. h y (List·Memᴰ·tail m)))
-
-  pub keep-shorter : (xs : List A) → length (keep test xs) ≤ length xs
-  unfolding keep
-  keep-shorter [] = omega arith
-  keep-shorter (x ∷ xs) = go (test x) (keep-shorter xs)
-    where
-      go : (t : Bool) → length (keep test xs) ≤ length xs → length (cond t (x ∷ keep test xs) (keep test xs)) ≤ suc (length xs)
-      go true l = omega arith
-      go false l = omega arith
-
-pub keep-agree : {A : Type 0} (f g : A → Bool) (xs : List A) → ((x : A) → List·Memᴰ x xs → f x ≡ g x) → keep f xs ≡ keep g xs
-unfolding keep
-keep-agree f g [] h = refl
-keep-agree f g (x ∷ xs) h =
-    rw (h x (List·Memᴰ·head refl), keep-agree f g xs (λ y m. h y (List·Memᴰ·tail m)))
-
-pub keep-map : {A B : Type 0} (test : B → Bool) (f : A → B) (xs : List A)
-    → keep test (map f xs) ≡ map f (keep (λ (x : A). test (f x)) xs)
-unfolding keep
-keep-map test f [] = refl
-keep-map {A} test f (x ∷ xs) = rw (keep-map test f xs) (go (test (f x)))
-  where
-    go : (t : Bool) → cond t (f x ∷ map f (keep (λ (y : A). test (f y)) xs)) (map f (keep (λ (y : A). test (f y)) xs))
-        ≡ map f (cond t (x ∷ keep (λ (y : A). test (f y)) xs) (keep (λ (y : A). test (f y)) xs))
-    go true = refl
-    go false = refl
 
 -- States among others.
 

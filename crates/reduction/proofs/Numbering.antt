@@ -15,6 +15,7 @@ use Rattle.simulation.specs.Simulation.{Each, Simulates}
 use Rattle.reduction.specs.Steps.{Stage, renamed, position, numbered}
 use Rattle.reduction.specs.Irreducible.{Distinct, none, also}
 use Rattle.reduction.specs.Inner.{Sound}
+use Rattle.reduction.proofs.Quotient.{each-named}
 use Rattle.reduction.proofs.Members.{rising-rest, rising-above, rising-add}
 
 -- Positions.
@@ -99,11 +100,7 @@ module _ {A B : Type 0} (f : A → B) where
           let s = Memᴰ·of-map f xs m in
           other (Memᴰ·cast (h x (s .0) (List·Memᴰ·head refl) (List·Memᴰ·tail (s .1)) (sym (s .2))) (s .1))
 
--- Each list of states is related to the same list renamed, both ways.
-each-named : {D : ℕ → ℕ → Type 0} (f : ℕ → ℕ) (qs : List ℕ) → ((q : ℕ) → List·Memᴰ q qs → D q (f q)) → Each D qs (map f qs)
-each-named f [] h = simulation.none
-each-named f (q ∷ qs) h = simulation.also (h q (List·Memᴰ·head refl)) (each-named f qs (λ p m. h p (List·Memᴰ·tail m)))
-
+-- A renamed list of states is related to the list.
 named-each : {D : ℕ → ℕ → Type 0} (f : ℕ → ℕ) {qs rs : List ℕ} → map f qs ≡ rs → ((q : ℕ) → List·Memᴰ q qs → D (f q) q)
     → Each D rs qs
 named-each {D} f {qs} e h = rw (← e) (go qs h)

@@ -19,6 +19,7 @@ use Rattle.automaton.specs.StateSet.{member, emptySet, withState}
 use Rattle.automaton.specs.Decoded.{ruleAt}
 use Rattle.automaton.proofs.StateSets.{member-empty, member-with, same-test}
 use Rattle.automaton.proofs.WrittenBytes.{from-step, length-from}
+use Rattle.automaton.proofs.Keeping.{keep-out}
 use Rattle.simulation.specs.Tree.{any}
 use Rattle.simulation.specs.Words.{rulesIn}
 use Rattle.simulation.specs.Inner.{RowRanged, StatesBelow, Has}
@@ -29,7 +30,7 @@ use Rattle.simulation.proofs.Queries.{ranged-children}
 use Rattle.simulation.proofs.Preorder.{all-member}
 use Rattle.reduction.specs.Steps.{Stage, among, foundIn, closure, buildable, needed, kept}
 use Rattle.reduction.specs.Inner.{Sound, TargetsAdded, ChildrenAdded}
-use Rattle.reduction.proofs.Members.{keep-out, among-in, among-out, all-in, all-out, same-bool}
+use Rattle.reduction.proofs.Members.{among-in, among-out, all-in, all-out, same-bool}
 use Rattle.reduction.proofs.Overwriting.{part-step, part-end}
 use Rattle.reduction.proofs.Closure.{Monotone, closure-least, closure-closed, closure-found}
 use Rattle.reduction.proofs.Trimming.{buildable-in, buildable-out, buildable-monotone}

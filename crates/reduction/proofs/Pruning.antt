@@ -1,5 +1,5 @@
--- Pruning: above each rule stands one that no rule dominatedBy, since what dominatedBy a dominating rule dominatedBy the rule itself and is
--- fewer; so the rules that stay answer all the others.
+-- Pruning: above each rule stands one that is not dominated, since what dominates a dominating rule dominates the rule itself and is less;
+-- so the rules that stay answer all the others.
 use Prim.Native.Nat.{ℕ, zero, suc, _+_, _≤_, _<_}
 use native.Mathlib.Omega.{arith}
 use mathlib.Core.Path.{_≡_, refl, sym, ap, ap₂, _∙_}
@@ -10,6 +10,7 @@ use lib.Dec.{eqb}
 use borrow.Author.Tests.{eq-eqb, eqb-true, not-true}
 use Rattle.automaton.specs.Lists.{keep}
 use Rattle.automaton.specs.Automaton.{Rule}
+use Rattle.automaton.proofs.Keeping.{keep-in, keep-out}
 use Rattle.simulation.specs.Tree.{any}
 use Rattle.simulation.specs.Simulation.{Each, none, also, Matched, Simulates, Relation, paired, matches}
 use Rattle.simulation.proofs.Search.{and-true-in, and-true-out, and-false-right, any-in, any-out}
@@ -17,7 +18,7 @@ use Rattle.simulation.proofs.Refinement.{Within, paired-each, each-paired}
 use Rattle.simulation.proofs.Language.{each-map, each-compose, each-refl}
 use Rattle.reduction.specs.Steps.{Stage, sameStates, dominatedBy, dominated, pruned}
 use Rattle.reduction.specs.Inner.{Sound}
-use Rattle.reduction.proofs.Members.{keep-in, keep-out, same-states-out, same-states-refl}
+use Rattle.reduction.proofs.Members.{same-states-out, same-states-refl}
 
 -- Of two tests the stronger keeps fewer.
 
@@ -47,16 +48,16 @@ module _ {A : Type 0} (f g : A → Bool) where
       let rest = keep-less m fails passes (λ z n. h z (List·Memᴰ·tail n)) in
       omega (arith, added 1 y (keep f xs) (keep g xs) (f y) (g y) (h y (List·Memᴰ·head refl)) (omega arith))
 
--- A rule that dominatedBy another.
-record Dominates (R : Relation) (u v : Rule) : Type 0 where
+-- Rule u is dominated by rule v.
+record DominatedBy (R : Relation) (u v : Rule) : Type 0 where
   target : u .target ≡ v .target
   symbol : u .symbol ≡ v .symbol
   children : Each (Within R) (u .children) (v .children)
   differ : u .children ≡ v .children → ⊥
 
-dominates-out : (R : Relation) (u v : Rule) → dominatedBy R u v ≡ true → Dominates R u v
+dominated-out : (R : Relation) (u v : Rule) → dominatedBy R u v ≡ true → DominatedBy R u v
 unfolding dominatedBy matches
-dominates-out R u v h =
+dominated-out R u v h =
     let a = and-true-out (eqb (u .target) (v .target)) _ h in
     let b = and-true-out (matches R u v) (not (sameStates (u .children) (v .children))) (a .1) in
     let c = and-true-out (eqb (u .symbol) (v .symbol)) (paired R (u .children) (v .children)) (b .0) in
@@ -67,9 +68,9 @@ dominates-out R u v h =
       differ = λ e. false≢true (ap not (sym (same-states-refl (v .children))) ∙ rw e at (b .1));
     }
 
-dominates-in : (R : Relation) (u v : Rule) → Dominates R u v → dominatedBy R u v ≡ true
+dominated-in : (R : Relation) (u v : Rule) → DominatedBy R u v → dominatedBy R u v ≡ true
 unfolding dominatedBy matches
-dominates-in R u v d =
+dominated-in R u v d =
     and-true-in (eq-eqb (u .target) (v .target) (d .target))
     (and-true-in (and-true-in (eq-eqb (u .symbol) (v .symbol) (d .symbol)) (each-paired R (d .children)))
     (go (sameStates (u .children) (v .children)) refl))
@@ -78,12 +79,12 @@ dominates-in R u v d =
     go true e = absurd (d .differ (same-states-out (u .children) (v .children) e))
     go false e = refl
 
-dominates-self : (R : Relation) (u : Rule) → dominatedBy R u u ≡ false
+dominated-self : (R : Relation) (u : Rule) → dominatedBy R u u ≡ false
 unfolding dominatedBy
-dominates-self R u =
+dominated-self R u =
     and-false-right (eqb (u .target) (u .target)) (and-false-right (matches R u u) (ap not (same-states-refl (u .children))))
 
-each-inside : {D : ℕ → ℕ → Type 0} {P : ℕ → Type 0} {qs rs : List ℕ} → Each D qs rs
+pub each-inside : {D : ℕ → ℕ → Type 0} {P : ℕ → Type 0} {qs rs : List ℕ} → Each D qs rs
     → ((q : ℕ) → List·Memᴰ q qs → P q) → ((r : ℕ) → List·Memᴰ r rs → P r) → Each (λ (q r : ℕ). P q × P r × D q r) qs rs
 each-inside none f g = none
 each-inside (also {q = q} {r = r} d ds) f g =
@@ -107,9 +108,9 @@ module _ (R : Relation) (Q : Stage) (sound : Sound Q)
   each-antisymmetric (also {q = q} {r = r} d ds) (also e es) =
       ap₂ _∷_ (antisymmetric q r (d .0) (d .1) (d .2) e) (each-antisymmetric ds es)
 
-  dominates-transitive : (u v w : Rule) → List·Memᴰ u (Q .rules) → List·Memᴰ v (Q .rules)
-      → Dominates R u v → Dominates R v w → Dominates R u w
-  dominates-transitive u v w m n a b =
+  dominated-transitive : (u v w : Rule) → List·Memᴰ u (Q .rules) → List·Memᴰ v (Q .rules)
+      → DominatedBy R u v → DominatedBy R v w → DominatedBy R u w
+  dominated-transitive u v w m n a b =
       record {
         target = a .target ∙ b .target;
         symbol = a .symbol ∙ b .symbol;
@@ -145,10 +146,10 @@ module _ (R : Relation) (Q : Stage) (sound : Sound Q)
       go true e rest =
           let f = any-out (dominatedBy R u) (Q .rules) e in
           let v = f .element in
-          let d = dominates-out R u v (f .passes) in
+          let d = dominated-out R u v (f .passes) in
           let fewer : length (keep (dominatedBy R v) (Q .rules)) < length (keep (dominatedBy R u) (Q .rules)) =
-          keep-less (dominatedBy R v) (dominatedBy R u) (f .member) (dominates-self R v) (f .passes)
-          (λ w n h. dominates-in R u w (dominates-transitive u v w m (f .member) d (dominates-out R v w h))) in
+          keep-less (dominatedBy R v) (dominatedBy R u) (f .member) (dominated-self R v) (f .passes)
+          (λ w n h. dominated-in R u w (dominated-transitive u v w m (f .member) d (dominated-out R v w h))) in
           let a = rest v (f .member) (omega arith) in
           record {
             rule = a .rule;
@@ -158,7 +159,7 @@ module _ (R : Relation) (Q : Stage) (sound : Sound Q)
             children = each-transitive (d .children) (a .children);
           }
 
-  pub undominated-above : (u : Rule) → List·Memᴰ u (Q .rules) → Matched (Within R) (pruned R Q .rules) (u .target) u
+  undominated-above : (u : Rule) → List·Memᴰ u (Q .rules) → Matched (Within R) (pruned R Q .rules) (u .target) u
   undominated-above u m = above (suc (length (keep (dominatedBy R u) (Q .rules)))) u m (omega arith)
 
   pub pruned-undominated : (u : Rule) → List·Memᴰ u (pruned R Q .rules) → dominated R (pruned R Q .rules) u ≡ false

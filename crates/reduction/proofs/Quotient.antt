@@ -9,6 +9,7 @@ use lib.Dec.{eqb}
 use borrow.Author.Tests.{eq-eqb, eqb-true}
 use Rattle.automaton.specs.Lists.{All, Rising, from, keep}
 use Rattle.automaton.specs.Automaton.{Rule}
+use Rattle.automaton.proofs.Keeping.{keep-in, keep-out}
 use Rattle.simulation.specs.Tree.{any}
 use Rattle.simulation.specs.Simulation.{Each, none, also, Matched, Simulates, related}
 use Rattle.simulation.proofs.Search.{and-true-in, and-true-out, any-in, any-out}
@@ -20,7 +21,7 @@ use Rattle.simulation.proofs.Maximality.{Closed}
 use Rattle.reduction.specs.Steps.{Stage, below, equivalent, firstOf, representative, renamed, quotient}
 use Rattle.reduction.specs.Irreducible.{Distinct}
 use Rattle.reduction.specs.Inner.{Sound}
-use Rattle.reduction.proofs.Members.{keep-in, keep-out, same-bool, rising-rest, rising-above, rising-keep}
+use Rattle.reduction.proofs.Members.{same-bool, rising-rest, rising-above, rising-keep}
 use Rattle.reduction.proofs.Firsts.{firsts-in, firsts-out, firsts-distinct}
 
 -- The first state that passes a test.
@@ -61,7 +62,8 @@ all-keep {P} test (All.also {x = x} {xs = xs} p ps) = go (test x) (all-keep test
     go true k = All.also p k
     go false k = k
 
-each-named : {D : ℕ → ℕ → Type 0} (f : ℕ → ℕ) (qs : List ℕ) → ((q : ℕ) → List·Memᴰ q qs → D q (f q)) → Each D qs (map f qs)
+-- Each list of states is related to the same list renamed.
+pub each-named : {D : ℕ → ℕ → Type 0} (f : ℕ → ℕ) (qs : List ℕ) → ((q : ℕ) → List·Memᴰ q qs → D q (f q)) → Each D qs (map f qs)
 each-named f [] h = none
 each-named f (q ∷ qs) h = also (h q (List·Memᴰ·head refl)) (each-named f qs (λ p m. h p (List·Memᴰ·tail m)))
 

@@ -52,7 +52,7 @@ report-refused b cause judged out n end now e put = rw (judged, ← e) (rw zero-
 
 -- A table that is not refused, and what reducing it leaves.
 
-pub reduction-rounds-few : (A : Automaton) → WellFormed A → reductionRounds A < 100000
+reduction-rounds-few : (A : Automaton) → WellFormed A → reductionRounds A < 100000
 unfolding reductionRounds roundsIn trimmed productive Closed
 reduction-rounds-few A w =
     let n = length (productive A) in

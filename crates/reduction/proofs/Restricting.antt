@@ -6,6 +6,7 @@ use mathlib.Core.Logic.{_⊎_, inl, inr}
 use mathlib.Core.List.{List, List·Memᴰ, Memᴰ·cast}
 use mathlib.Core.Bool.{Bool, true, _&&_}
 use Rattle.automaton.specs.Automaton.{Rule}
+use Rattle.automaton.proofs.Keeping.{keep-in, keep-out}
 use Rattle.simulation.specs.Tree.{any}
 use Rattle.simulation.specs.Simulation.{Simulates}
 use Rattle.simulation.proofs.Search.{and-true-in, and-true-out, or-true-out, or-true-left, or-true-right, any-in, any-out}
@@ -13,7 +14,7 @@ use Rattle.simulation.proofs.Language.{each-refl}
 use Rattle.simulation.proofs.Preorder.{all-member}
 use Rattle.reduction.specs.Steps.{Stage, among, needed, kept, restricted}
 use Rattle.reduction.specs.Inner.{Sound}
-use Rattle.reduction.proofs.Members.{keep-in, keep-out, among-in, among-out}
+use Rattle.reduction.proofs.Members.{among-in, among-out}
 use Rattle.reduction.proofs.Closure.{Monotone, closure-least, closure-states, closure-rising, closure-closed}
 use Rattle.reduction.proofs.Trimming.{member-all, part-simulates}
 

@@ -1,21 +1,19 @@
 -- The bytes that reducing a table writes: they are the encoding of the reduced automaton, which is read back from them.
 use Prim.Native.Nat.{ℕ, _≤_}
-use native.Mathlib.Omega.{arith}
 use mathlib.Core.Path.{_≡_, refl, sym, ap, _∙_}
 use mathlib.Core.List.{List, _++_}
-use mathlib.Core.Bool.{Bool, true, false, cond, true≢false}
+use mathlib.Core.Bool.{Bool, true, false, cond}
 use lib.ListN.{length, take, drop}
 use lib.Seq.{take-append-seam}
 use lib.Dec.{leb}
 use borrow.Author.Tests.{leb-true, le-leb}
-use Rattle.automaton.specs.Automaton.{Automaton, WellFormed}
+use Rattle.automaton.specs.Automaton.{Automaton}
 use Rattle.automaton.specs.Refusal.{numberOf}
 use Rattle.automaton.specs.declared.refusal.Refusal.{Refusal}
 use Rattle.automaton.specs.Read.{Read, found, refused, _>>=_}
 use Rattle.automaton.specs.Table.{judge, encode}
 use Rattle.automaton.specs.Decoded.{written, writtenOver}
 use Rattle.automaton.proofs.Inversion.{refused≢found, bind-found}
-use Rattle.automaton.proofs.Theorems.{judge-encoded}
 use Rattle.simulation.specs.Tree.{Tree, accepts}
 use Rattle.simulation.specs.Run.{Accepts}
 use Rattle.simulation.specs.Postfix.{judgeTree}

@@ -1,26 +1,25 @@
 -- Stages in arrays: what the marked rows are, sets of states as rising lists, and that the rows of a sound stage are in range.
 use Prim.Native.Nat.{ℕ, zero, suc, _+_, _*_, _≤_, _<_}
-use native.Mathlib.Nat.{zero-add, add-zero}
+use native.Mathlib.Nat.{add-zero}
 use native.Mathlib.Omega.{arith}
 use mathlib.Core.Path.{_≡_, refl, sym, ap, _∙_}
 use mathlib.Core.List.{List, [], _∷_, map, List·Memᴰ, List·Memᴰ·head, List·Memᴰ·tail, Memᴰ·map, Memᴰ·of-map}
-use mathlib.Core.Bool.{Bool, true, false, cond, not, _&&_}
+use mathlib.Core.Bool.{Bool}
 use lib.ListN.{length, take, drop, getD}
 use lib.Seq.{getD-take, getD-drop}
-use lib.Dec.{eqb}
-use Rattle.automaton.specs.Lists.{All, none, also, Rising, all, from, keep}
-use Rattle.automaton.specs.Automaton.{Rule, Automaton, WellFormed, WellFormedRule}
+use Rattle.automaton.specs.Lists.{Rising, from, keep}
+use Rattle.automaton.specs.Automaton.{Rule}
 use Rattle.automaton.specs.StateSet.{member}
 use Rattle.automaton.specs.Decoded.{ruleAt}
 use Rattle.automaton.proofs.WrittenBytes.{length-from}
-use Rattle.simulation.specs.Tree.{any}
+use Rattle.automaton.proofs.Keeping.{keep-agree, keep-in, keep-map, keep-out, keep-shorter}
 use Rattle.simulation.specs.Words.{statesIn, rulesIn}
 use Rattle.simulation.specs.Inner.{RowRanged, Has}
-use Rattle.simulation.proofs.Ranges.{from-member, member-from, from-rising, from-append}
+use Rattle.simulation.proofs.Ranges.{from-member, member-from, from-rising}
 use Rattle.simulation.proofs.Preorder.{all-member}
-use Rattle.reduction.specs.Steps.{Stage, among, sameRule, firsts}
-use Rattle.reduction.specs.Inner.{Sound, Known, marked, isFirst}
-use Rattle.reduction.proofs.Members.{keep-in, keep-out, keep-agree, keep-map, keep-shorter, among-in, among-out, same-bool}
+use Rattle.reduction.specs.Steps.{Stage, among}
+use Rattle.reduction.specs.Inner.{Sound, Known, marked}
+use Rattle.reduction.proofs.Members.{among-in, among-out}
 use Rattle.reduction.proofs.Members.{rising-keep, rising-same}
 use Rattle.reduction.proofs.Overwriting.{length-part}
 
@@ -53,13 +52,6 @@ set-states words xs n few rising low has =
     among-out xs q (sym (has q (omega arith)) ∙ o .1))
     (λ q m. let l = low q m in
     keep-in (member words) (from-member n 0 q (omega arith) (omega arith)) (has q (omega arith) ∙ among-in m))
-
-pub states-set : (words xs : List ℕ) (n : ℕ) → statesIn n words ≡ xs → (q : ℕ) → q < n → member words q ≡ among xs q
-unfolding statesIn
-states-set words xs n e q h =
-    same-bool
-    (λ t. among-in (rw e at (keep-in (member words) (from-member n 0 q (omega arith) (omega arith)) t)))
-    (λ t. keep-out (member words) (from 0 n) (rw e (among-out xs q t)) .1)
 
 -- Rows in range.
 

@@ -3,34 +3,35 @@ use Prim.Native.Nat.{ℕ, _+_, _*_, _≤_, _<_}
 use native.Mathlib.Nat.{add-zero}
 use native.Mathlib.Omega.{arith}
 use mathlib.Core.Path.{_≡_, refl, sym, ap, ap₂, _∙_}
-use mathlib.Core.List.{List, [], _∷_, map, List·Memᴰ, List·Memᴰ·head, List·Memᴰ·tail, Memᴰ·map, Memᴰ·of-map}
-use mathlib.Core.Bool.{Bool, true, false, not, _&&_}
+use mathlib.Core.List.{List, [], _∷_, map, List·Memᴰ, List·Memᴰ·head, List·Memᴰ·tail, Memᴰ·of-map}
+use mathlib.Core.Bool.{Bool, true, _&&_}
 use lib.ListN.{length, getD, length-map}
 use lib.Dec.{eqb}
 use borrow.Author.Tests.{eq-eqb, eqb-true}
-use Rattle.automaton.specs.Lists.{Rising, all, from, keep}
+use Rattle.automaton.specs.Lists.{all, from, keep}
 use Rattle.automaton.specs.Automaton.{Rule, Automaton, WellFormed, WellFormedRule}
 use Rattle.automaton.specs.StateSet.{member}
 use Rattle.automaton.specs.Decoded.{ruleAt}
 use Rattle.automaton.proofs.WrittenBytes.{length-from}
+use Rattle.automaton.proofs.Keeping.{keep-agree, keep-in, keep-out, keep-shorter}
 use Rattle.simulation.specs.Tree.{any}
-use Rattle.simulation.specs.Simulation.{Relation}
-use Rattle.simulation.specs.Words.{statesIn, rulesIn, relationWords}
+use Rattle.simulation.specs.Words.{statesIn, rulesIn}
 use Rattle.simulation.specs.Inner.{RowRanged, Has}
 use Rattle.simulation.proofs.Search.{and-true-in, and-true-out, any-in, any-out}
+use Rattle.simulation.proofs.Stacks.{any-map}
 use Rattle.simulation.proofs.Ranges.{from-member, member-from, from-rising}
 use Rattle.simulation.proofs.Preorder.{all-member}
 use Rattle.reduction.specs.Steps.{Stage, among, closure, buildable, productive, namesOnly, trimmed, below, equivalent, firstOf, representative}
-use Rattle.reduction.specs.Steps.{renamed, firsts, quotient, dominated, pruned, kept, restricted, position, numbered}
+use Rattle.reduction.specs.Steps.{renamed, firsts, quotient, pruned, kept, restricted, position, numbered}
 use Rattle.reduction.specs.Reduce.{shortened}
 use Rattle.reduction.specs.Inner.{Sound, Known, nameIn, marked, isFirst, stageIn}
-use Rattle.reduction.proofs.Members.{keep-in, keep-out, keep-agree, keep-shorter, among-in, among-out, same-bool, rising-keep, rising-same}
-use Rattle.reduction.proofs.Firsts.{firsts-out, firsts-places, any-map}
+use Rattle.reduction.proofs.Members.{among-in, among-out, same-bool, rising-keep, rising-same}
+use Rattle.reduction.proofs.Firsts.{firsts-out, firsts-places}
 use Rattle.reduction.proofs.Quotient.{below-reflexive, first-same, representative-state, quotient-states, quotient-sound}
 use Rattle.reduction.proofs.Restricting.{kept-states}
 use Rattle.reduction.proofs.Soundness.{sound-pruned, sound-shortened}
 use Rattle.reduction.proofs.Numbering.{position-low, positions-rising}
-use Rattle.reduction.proofs.Staged.{marked-rules, set-states, states-set, rule-in, known-rules, known-like, ranged-rows, ranged-stage}
+use Rattle.reduction.proofs.Staged.{marked-rules, set-states, rule-in, known-rules, known-like, ranged-rows, ranged-stage}
 
 all-agree : (f g : ℕ → Bool) (qs : List ℕ) → ((q : ℕ) → List·Memᴰ q qs → f q ≡ g q) → all f qs ≡ all g qs
 unfolding all
@@ -98,13 +99,13 @@ module _ (n : ℕ) (few : n ≤ 256) (states finals ranks rows : List ℕ) (k : 
   abbrev S : Stage
   S = stageIn n states finals ranks rows k
 
-  pub name-representative : (q : ℕ) → List·Memᴰ q (S .states) → nameIn names q ≡ representative (below S) (S .states) q
+  name-representative : (q : ℕ) → List·Memᴰ q (S .states) → nameIn names q ≡ representative (below S) (S .states) q
   unfolding equivalent
   name-representative q m =
       let r = below-reflexive S sound q m in
       named q (stage-low n states finals ranks rows k q m) (and-true-in r r) ∙ first-same S sound q m
 
-  pub renamed-rules : map (renamed (nameIn names)) (rulesIn ranks rows k) ≡ map (renamed (representative (below S) (S .states))) (S .rules)
+  renamed-rules : map (renamed (nameIn names)) (rulesIn ranks rows k) ≡ map (renamed (representative (below S) (S .states))) (S .rules)
   unfolding stageIn
   renamed-rules = renamed-agree (nameIn names) (representative (below S) (S .states)) S sound name-representative
 

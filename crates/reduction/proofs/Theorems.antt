@@ -1,55 +1,106 @@
--- Demand 3, and what else holds of reduction, stated over the definitions of specs/ alone. Each theorem is proved in the file that its body
--- names.
-use Prim.Native.Nat.{ℕ, _≤_, _<_}
-use mathlib.Core.Path.{_≡_, refl, sym, ap, ap₂, _∙_}
+-- What holds of reduction, stated over the definitions of specs/ alone: of each step, of a reduced automaton, and demand 3 of the bytes that
+-- the call writes, whose sentences are the fields of the record in specs/Demand3.antt. Each theorem is proved in the file that its body names.
+use Prim.Native.Nat.{ℕ, suc, _≤_, _<_}
+use mathlib.Core.Path.{_≡_}
 use mathlib.Core.Logic.{_↔_}
-use mathlib.Core.List.{List, _++_, List·Memᴰ}
-use mathlib.Core.Bool.{Bool, true, false}
-use lib.ListN.{length, take, drop, getD}
-use Rattle.automaton.specs.Automaton.{Automaton, WellFormed}
-use Rattle.automaton.specs.Read.{Read, found, refused}
+use mathlib.Core.List.{List, List·Memᴰ}
+use mathlib.Core.Bool.{true}
+use lib.ListN.{length, take, getD}
+use Rattle.automaton.specs.Automaton.{Rule, Automaton, WellFormed}
+use Rattle.automaton.specs.Read.{found}
 use Rattle.automaton.specs.Table.{judge, encode}
-use Rattle.automaton.proofs.Theorems.{judged-well-formed, encode-judged, judge-encoded}
 use Rattle.simulation.specs.Tree.{Tree, Over}
 use Rattle.simulation.specs.Run.{Reaches, Accepts}
-use Rattle.simulation.specs.Check.{acceptance, counted}
-use Rattle.simulation.specs.declared.checking.Counts.{Counts}
-use Rattle.simulation.specs.Simulation.{related}
+use Rattle.simulation.specs.Simulation.{Simulates, related, relationAt}
+use Rattle.simulation.proofs.Refinement as refinement
 use Rattle.simulation.proofs.Search.{and-true-in, and-true-out}
-use Rattle.reduction.specs.Steps.{productive, trimmed, below, equivalent, representative, numbered}
-use Rattle.reduction.specs.Reduce.{reduce, reductionRounds, reduction, reductionAfter}
+use Rattle.reduction.specs.Steps.{Stage, productive, trimmed, below, roundsIn, equivalent, representative, quotient, pruned, kept}
+use Rattle.reduction.specs.Reduce.{reduce, reductionRounds, reductionOf, reduction, reductionAfter}
 use Rattle.reduction.specs.Irreducible.{Irreducible}
+use Rattle.reduction.specs.Demand3.{Demand3}
+use Rattle.reduction.specs.Report.{decimal}
 use Rattle.reduction.specs.declared.reducing.Reduction.{Reduction}
+use Rattle.reduction.specs.declared.reducing.Reduced.{Reduced}
+use Rattle.reduction.specs.declared.reducing.Reduced.the-variants.{Table}
 use Rattle.reduction.proofs.Trimming as trimming
 use Rattle.reduction.proofs.Quotient as quot
+use Rattle.reduction.proofs.Restricting as restricting
+use Rattle.reduction.proofs.Soundness as soundness
 use Rattle.reduction.proofs.Usefulness.{run-over}
 use Rattle.reduction.proofs.Agreement as agreement
 use Rattle.reduction.proofs.Counting as counting
-use Rattle.reduction.proofs.Fixpoint as fixpoint
-use Rattle.reduction.proofs.Rewritten as rewritten
+use Rattle.reduction.proofs.Decimal as digits
+use Rattle.reduction.proofs.Delivered as delivered
 
--- Of the steps: step 1 keeps the states to which a tree over the symbols belongs; a representative is the smallest state of its group.
+-- Of the steps.
 
 module _ (A : Automaton) (w : WellFormed A) where
+  -- Step 1 keeps the states to which a tree over the symbols belongs.
   pub productive-trees : (q : ℕ) → List·Memᴰ q (productive A) ↔ ((t : Tree) × Over (A .ranks) t × Reaches (A .rules) t q)
   productive-trees q = (
     λ m. let (t, r) = trimming.productive-reached A w q m in (t, rw (r .over) at (run-over A w (r .run) (r .is-run)), r),
     λ (t, over, r). trimming.reached-productive A w t q r,
   )
 
-  pub representative-equivalent : (q : ℕ) → List·Memᴰ q (productive A)
-      → equivalent (below (trimmed A)) q (representative (below (trimmed A)) (productive A) q) ≡ true
-  unfolding trimmed equivalent
+  -- Step 2: ≤ is a downward simulation of the remainder and contains every other one; the rounds are the least j with R(j+1) = Rj.
+  pub remainder-simulation : Simulates (trimmed A .rules) (trimmed A .rules) (λ (q r : ℕ). related (below (trimmed A)) q r ≡ true)
+  remainder-simulation = quot.below-simulates (trimmed A) (trimming.trimmed-sound A w)
+
+  pub remainder-largest : (D : ℕ → ℕ → Type 0) → Simulates (trimmed A .rules) (trimmed A .rules) D
+      → ((q r : ℕ) → D q r → List·Memᴰ q (trimmed A .states) × List·Memᴰ r (trimmed A .states))
+      → (q r : ℕ) → D q r → related (below (trimmed A)) q r ≡ true
+  remainder-largest = quot.below-largest (trimmed A) (trimming.trimmed-sound A w)
+
+  pub rounds-settle : relationAt (trimmed A .rules) (trimmed A .states) (suc (reductionRounds A))
+      ≡ relationAt (trimmed A .rules) (trimmed A .states) (reductionRounds A)
+  unfolding reductionRounds roundsIn
+  rounds-settle = refinement.rounds-fixed (trimmed A .rules) (trimmed A .states)
+
+  pub rounds-least : (i : ℕ) → i < reductionRounds A
+      → relationAt (trimmed A .rules) (trimmed A .states) (suc i) ≡ relationAt (trimmed A .rules) (trimmed A .states) i → ⊥
+  unfolding reductionRounds roundsIn
+  rounds-least = refinement.rounds-least (trimmed A .rules) (trimmed A .states)
+
+  -- Step 3: a representative is the smallest state of its group, and ≤ between groups is that of any members.
+  pub representative-equivalent : (q : ℕ) → List·Memᴰ q (trimmed A .states)
+      → equivalent (below (trimmed A)) q (representative (below (trimmed A)) (trimmed A .states) q) ≡ true
+  unfolding equivalent
   representative-equivalent q m =
       let sound = trimming.trimmed-sound A w in
       and-true-in (quot.below-representative (trimmed A) sound q m) (quot.representative-below (trimmed A) sound q m)
 
-  pub representative-smallest : (q r : ℕ) → List·Memᴰ r (productive A) → equivalent (below (trimmed A)) q r ≡ true
-      → representative (below (trimmed A)) (productive A) q ≤ r
-  unfolding trimmed equivalent
+  pub representative-smallest : (q r : ℕ) → List·Memᴰ r (trimmed A .states) → equivalent (below (trimmed A)) q r ≡ true
+      → representative (below (trimmed A)) (trimmed A .states) q ≤ r
+  unfolding equivalent
   representative-smallest q r m h =
       let s = and-true-out (related (below (trimmed A)) q r) (related (below (trimmed A)) r q) h in
       quot.representative-least (trimmed A) (trimming.trimmed-sound A w) q r m (s .0) (s .1)
+
+  pub groups-below : (p q r s : ℕ) → equivalent (below (trimmed A)) p q ≡ true → equivalent (below (trimmed A)) r s ≡ true
+      → related (below (trimmed A)) p r ≡ true → related (below (trimmed A)) q s ≡ true
+  unfolding equivalent
+  groups-below p q r s e f h =
+      let through = quot.below-transitive (trimmed A) (trimming.trimmed-sound A w) in
+      let a = and-true-out (related (below (trimmed A)) p q) (related (below (trimmed A)) q p) e in
+      let b = and-true-out (related (below (trimmed A)) r s) (related (below (trimmed A)) s r) f in
+      through q p s (a .1) (through p r s h (b .0))
+
+  -- Step 5 keeps the final groups and the children of rules whose target is kept, and nothing that does not follow from these.
+  abbrev undominated : Stage
+  undominated = pruned (below (trimmed A)) (quotient (below (trimmed A)) (trimmed A))
+
+  pub finals-kept : (q : ℕ) → List·Memᴰ q (undominated .finals) → List·Memᴰ q (kept undominated)
+  finals-kept = restricting.finals-kept undominated (soundness.sound-pruned (trimmed A) (trimming.trimmed-sound A w))
+
+  pub children-kept : (u : Rule) → List·Memᴰ u (undominated .rules) → List·Memᴰ (u .target) (kept undominated)
+      → (q : ℕ) → List·Memᴰ q (u .children) → List·Memᴰ q (kept undominated)
+  children-kept = restricting.children-kept undominated (soundness.sound-pruned (trimmed A) (trimming.trimmed-sound A w))
+
+  pub kept-least : (P : ℕ → Type 0) → ((q : ℕ) → List·Memᴰ q (undominated .finals) → P q)
+      → ((u : Rule) → List·Memᴰ u (undominated .rules) → List·Memᴰ (u .target) (kept undominated) → P (u .target)
+      → (q : ℕ) → List·Memᴰ q (u .children) → P q)
+      → (q : ℕ) → List·Memᴰ q (kept undominated) → P q
+  kept-least = restricting.kept-least undominated (soundness.sound-pruned (trimmed A) (trimming.trimmed-sound A w))
 
 -- Of automata.
 
@@ -58,7 +109,7 @@ module _ (A : Automaton) (w : WellFormed A) where
   pub same-trees : (t : Tree) → Over (A .ranks) t → Accepts A t ↔ Accepts (reduce A) t
   same-trees t over = (agreement.accepted-reduced A w t, agreement.reduced-accepted A w t)
 
-  -- Every state takes part in an accepted tree, no two states simulate each other, no rule stands twice or is outdone.
+  -- Every state takes part in an accepted tree, no two different states simulate each other, no rule stands twice or is outdone.
   pub reduced-irreducible : Irreducible (reduce A)
   reduced-irreducible = agreement.irreducible A w
 
@@ -67,91 +118,26 @@ module _ (A : Automaton) (w : WellFormed A) where
   reduced-well-formed = counting.reduce-well-formed A w
 
   pub reduced-ranks : reduce A .ranks ≡ A .ranks
-  unfolding reduce numbered
-  reduced-ranks = refl
+  reduced-ranks = delivered.ranks-stay A
 
-  pub reduced-shorter : length (encode (reduce A)) ≤ length (encode A)
-  reduced-shorter = counting.reduce-shorter A w
+  pub reduced-no-longer : length (encode (reduce A)) ≤ length (encode A)
+  reduced-no-longer = counting.reduce-shorter A w
 
   -- Reduced again, it is itself.
   pub reduced-again : reduce (reduce A) ≡ reduce A
-  reduced-again = fixpoint.irreducible-fixed (reduce A) reduced-well-formed reduced-irreducible
+  reduced-again = delivered.fixpoint-of A w
 
--- Of bytes. Reduced again into some room, a table gives its own bytes and length, and loses no state and no rule.
-pub record Again (bytes room : List ℕ) : Type 0 where
-  pub answer : Reduction
-  pub is-answer : reduction bytes room ≡ found answer
-  pub length-is : answer .length ≡ length bytes
-  pub states : answer .«new_states» ≡ answer .«old_states»
-  pub rules : answer .«new_rules» ≡ answer .«old_rules»
-  pub writes : reductionAfter (judge bytes) room ≡ bytes ++ drop (length bytes) room
+-- Of bytes. A well-formed table is answered wherever the output is as long as it.
+pub reduction-answers : (table out : List ℕ) (A : Automaton) → ((i : ℕ) → getD table i 0 < 256) → judge table ≡ found A
+    → length table ≤ length out → (r : Reduction) × (reduction table out ≡ found r)
+reduction-answers = delivered.reduction-answers
 
--- What holds of a table that was reduced into `out`, of the answer r, and of the bytes that were written.
-pub record Demand3 (table out : List ℕ) (r : Reduction) (bytes : List ℕ) : Type 0 where
-  pub first : Automaton
-  pub reduced : Automaton
-  pub is-first : judge table ≡ found first
-  pub is-reduced : judge bytes ≡ found reduced
-  -- The length is that of the bytes, and never exceeds the table's; what stood behind them stays.
-  pub length-is : length bytes ≡ r .length
-  pub shorter : length bytes ≤ length table
-  pub stays : reductionAfter (judge table) out ≡ bytes ++ drop (r .length) out
-  pub ranks : reduced .ranks ≡ first .ranks
-  -- Both accept the same trees over the table's symbols.
-  pub same-trees : (t : Tree) → Over (first .ranks) t → Accepts first t ↔ Accepts reduced t
-  -- A check against either gives the same answer or refusal, and the same counts.
-  pub same-answer : (tree : List ℕ) → acceptance table tree ≡ acceptance bytes tree
-  pub same-counts : (counts : Counts) (tree : List ℕ) → counted counts (acceptance table tree) ≡ counted counts (acceptance bytes tree)
-  pub irreducible : Irreducible reduced
-  -- Reduced again means with an output not shorter than it.
-  pub again : (room : List ℕ) → length bytes ≤ length room → Again bytes room
+-- Demand 3, of what the call answers and of the bytes that it writes: the first two premises are its contract.
+pub demand-3 : (table out after : List ℕ) (answer : Reduced) → reductionOf answer ≡ reduction table out
+    → after ≡ reductionAfter (judge table) out → ((i : ℕ) → getD table i 0 < 256)
+    → (r : Reduction) → answer ≡ Table r → Demand3 table out r (take (r .length) after)
+demand-3 = delivered.demand-3
 
-again-from : (A : Automaton) → WellFormed A → (room : List ℕ) → length (encode (reduce A)) ≤ length room → Again (encode (reduce A)) room
-unfolding rewritten.answerFor
-again-from A w room h =
-    let B = reduce A in
-    let same = reduced-again A w in
-    let judged = judge-encoded B (reduced-well-formed A w) in
-    let fits : length (encode (reduce B)) ≤ length room = rw same h in
-    record {
-      answer = rewritten.answerFor B;
-      is-answer = rewritten.reduction-fits (encode B) room B judged fits;
-      length-is = ap (λ (C : Automaton). length (encode C)) same;
-      states = ap (λ (C : Automaton). C .states) same;
-      rules = ap (λ (C : Automaton). length (C .rules)) same;
-      writes = rw same at (rewritten.after-fits (encode B) room B judged fits);
-    }
-
-demand-3-from : (table out : List ℕ) (A : Automaton) → ((i : ℕ) → getD table i 0 < 256) → judge table ≡ found A
-    → length (encode (reduce A)) ≤ length out → Demand3 table out (rewritten.answerFor A) (encode (reduce A))
-unfolding rewritten.answerFor
-demand-3-from table out A bytes e fits =
-    let w = judged-well-formed table A e in
-    let judged = judge-encoded (reduce A) (reduced-well-formed A w) in
-    let alike =
-    rewritten.acceptance-same table (encode (reduce A)) A (reduce A) e judged (reduced-ranks A w)
-    (agreement.accepted-reduced A w) (agreement.reduced-accepted A w) in
-    record {
-      first = A;
-      reduced = reduce A;
-      is-first = e;
-      is-reduced = judged;
-      length-is = refl;
-      shorter = rw (encode-judged table A bytes e) at (reduced-shorter A w);
-      stays = rewritten.after-fits table out A e fits;
-      ranks = reduced-ranks A w;
-      same-trees = same-trees A w;
-      same-answer = alike;
-      same-counts = λ counts tree. ap (counted counts) (alike tree);
-      irreducible = reduced-irreducible A w;
-      again = again-from A w;
-    }
-
--- Demand 3, of every table that is reduced, and of the bytes that the call writes.
-pub demand-3 : (table out : List ℕ) (r : Reduction) → ((i : ℕ) → getD table i 0 < 256) → reduction table out ≡ found r
-    → Demand3 table out r (take (r .length) (reductionAfter (judge table) out))
-demand-3 table out r bytes h =
-    let (A, e) = rewritten.reduction-judged table out r h in
-    let fits = rewritten.fits-reduction table out A e r h in
-    let answer : r ≡ rewritten.answerFor A = cc (h, rewritten.reduction-fits table out A e fits) in
-    rw (answer, rewritten.written-bytes table out A e fits) (demand-3-from table out A bytes e fits)
+-- The report's numbers: the digits of v read back give v, and none stands before them that is 0.
+pub decimal-numeral : (v : ℕ) → digits.Numeral v (decimal v)
+decimal-numeral = digits.decimal-numeral

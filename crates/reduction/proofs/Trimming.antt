@@ -8,6 +8,7 @@ use lib.Dec.{eqb}
 use borrow.Author.Tests.{eqb-true, eq-eqb}
 use Rattle.automaton.specs.Lists.{All, none, also, all, from}
 use Rattle.automaton.specs.Automaton.{Rule, Automaton, WellFormed, WellFormedRule}
+use Rattle.automaton.proofs.Keeping.{keep-in, keep-out}
 use Rattle.simulation.specs.Tree.{Tree, Trees, node, nil, cons}
 use Rattle.simulation.specs.Run.{RuleAt, Reaches}
 use Rattle.simulation.specs.Simulation.{Simulates}
@@ -18,7 +19,7 @@ use Rattle.simulation.proofs.Language.{each-refl, simulates-reaches}
 use Rattle.simulation.proofs.Preorder.{all-member}
 use Rattle.reduction.specs.Steps.{among, closure, buildable, productive, namesOnly, trimmed}
 use Rattle.reduction.specs.Inner.{Sound}
-use Rattle.reduction.proofs.Members.{keep-in, keep-out, among-in, among-out, all-in, all-out, rising-keep}
+use Rattle.reduction.proofs.Members.{among-in, among-out, all-in, all-out, rising-keep}
 use Rattle.reduction.proofs.Closure.{Monotone, closure-least, closure-states, closure-rising, closure-closed}
 
 pub member-all : {A : Type 0} {P : A → Type 0} (xs : List A) → ((x : A) → List·Memᴰ x xs → P x) → All P xs

@@ -1,12 +1,12 @@
 -- Runs put together: a run in the place of a node of another, and a state under the target of a rule takes part where the target does.
-use Prim.Native.Nat.{ℕ, zero, suc}
+use Prim.Native.Nat.{ℕ, suc}
 use mathlib.Core.Path.{_≡_, refl, sym, ap, ap₂, _∙_}
-use mathlib.Core.Logic.{_⊎_, inl, inr}
+use mathlib.Core.Logic.{inl, inr}
 use mathlib.Core.List.{List, [], _∷_, List·Memᴰ, List·Memᴰ·head, List·Memᴰ·tail}
 use lib.ListN.{length}
 use Rattle.automaton.specs.Automaton.{Rule, Automaton, WellFormed, WellFormedRule}
 use Rattle.simulation.specs.Tree.{Tree, width, Over, AllOver}
-use Rattle.simulation.specs.Run.{Run, Runs, at, none, also, root, roots, treeOf, treesOf, RuleAt, IsRun, AreRuns, Reaches, Occurs, OccursIn, Useful}
+use Rattle.simulation.specs.Run.{Run, Runs, at, none, also, root, roots, treeOf, treesOf, IsRun, AreRuns, Reaches, Occurs, OccursIn, Useful}
 use Rattle.simulation.proofs.Preorder.{all-member}
 
 -- The tree of a run is one over the symbols of a well-formed automaton.

@@ -1,4 +1,4 @@
-// New names of states: of each its block's representative, and of each kept state its number.
+// New names of states: of each the representative of its block (document 01: "group"), and of each kept state its number.
 ghost use mathlib.Core.Path.{_≡_};
 ghost use mathlib.Core.Bool.{true, _&&_};
 ghost use Prim.Native.Nat.{ℕ, _≤_, _<_};

@@ -1,4 +1,4 @@
-// Reduces a table: the shortest form that document 01's six steps give, which accepts the same trees.
+// Reduces a table to the one that document 01's six steps give: it accepts the same trees and is never longer.
 mod blocks;
 mod growth;
 mod lines;

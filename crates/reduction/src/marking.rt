@@ -68,7 +68,7 @@ fn same_states(rows: &[u16], a: usize, b: usize, count: usize) -> bool
     true
 }
 
-// Whether rule i is rule j.
+// Whether rule i is equal to rule j.
 fn same_rule(ranks: &[u8; 256], rows: &[u16; 10240], i: usize, j: usize) -> bool
     requires { ⌜ (i < 1024) × (j < 1024) ⌝ }
     requires { ⌜ RowRanged (now ranks) (now rows) i × RowRanged (now ranks) (now rows) j ⌝ }
@@ -126,7 +126,7 @@ pub fn mark_firsts(k: usize, ranks: &[u8; 256], rows: &[u16; 10240], marks: &mut
     }
 }
 
-// Whether rule j, of the target of rule i, dominates rule i.
+// Whether rule j dominates rule i if it has its target, which is not looked at.
 fn is_better(
     words: &[u64; 1024],
     ranks: &[u8; 256],

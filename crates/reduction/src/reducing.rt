@@ -25,8 +25,8 @@ pub enum Reduced {
     Refused(Refusal),
 }
 
-// Writes the reduced table to the start of `out`. Refuses a table as `decode` does, and an `out` that is too short with 13; a refusal
-// leaves `out` as it is.
+// Writes the reduced table to the start of `out`. Refuses a table with 1 to 7, as `judge` does, and an `out` that is too short with 13; a
+// refusal leaves `out` as it is.
 pub fn reduce(table: &[u8], out: &mut [u8]) -> Reduced
     ensures { λ r. ⌜ reductionOf r ≡ reduction (now (table .entry)) (now (out .entry)) ⌝ }
     ensures { λ r. ⌜ now (out .exit) ≡ reductionAfter (judge (now (table .entry))) (now (out .entry)) ⌝ }

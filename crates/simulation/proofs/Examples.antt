@@ -4,7 +4,7 @@ use mathlib.Core.Path.{_≡_, refl}
 use mathlib.Core.List.{[], _∷_}
 use mathlib.Core.Bool.{true, false}
 use lib.ListN.{length}
-use Rattle.automaton.specs.Lists.{from}
+use Rattle.automaton.specs.Lists.{from, keep}
 use Rattle.automaton.specs.Automaton.{Automaton}
 use Rattle.automaton.specs.Bytes.{number2, number4, numbers, bytes2, bytes4, fields}
 use Rattle.automaton.specs.Record.{endOf, isWhole, opened, bodyIn, bodyOf, encodeRecord}
@@ -12,7 +12,7 @@ use Rattle.automaton.specs.Read.{refused, _>>=_, _>>_, check}
 use Rattle.automaton.proofs.Examples.{rule, T}
 use Rattle.simulation.specs.Tree.{Tree, node, nil, cons, any, belongs, accepts}
 use Rattle.simulation.specs.Postfix.{treesIn, push, pushAll, single, isTreeRecord, judgeTree}
-use Rattle.simulation.specs.Simulation.{related, paired, matches, matched, every, holds, keepPairs, refine}
+use Rattle.simulation.specs.Simulation.{related, paired, matches, matched, every, holds, refine}
 use Rattle.simulation.specs.Simulation.{allPairs, relationAt, settle, rounds, relation}
 use Rattle.simulation.specs.Query.{simulationOf, roundsOf, Unmatched}
 
@@ -44,8 +44,8 @@ pub record Bench : Type 0 where
       × (judgeTree (T .ranks) (encodeRecord 16 (fields (3 ∷ []))) ≡ refused 9)
   B12 : related (simulationOf C) 2 3 ≡ false
 
-bench : Bench
-unfolding simulationOf roundsOf relation relationAt rounds settle allPairs refine keepPairs holds matched every matches paired related any from
+pub bench : Bench
+unfolding simulationOf roundsOf relation relationAt rounds settle allPairs refine keep holds matched every matches paired related any from
     accepts belongs judgeTree isTreeRecord pushAll push single treesIn opened isWhole endOf bodyOf bodyIn number2 number4 numbers
     encodeRecord bytes2 bytes4 fields check _>>=_ _>>_
 bench = record {

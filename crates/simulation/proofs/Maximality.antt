@@ -1,20 +1,22 @@
 -- The relation is the largest simulation on the states: a simulation stays within every round. Its rounds are bounded.
 use Prim.Native.Nat.{ℕ, zero, suc, _+_, _*_, _-_, _≤_}
 use mathlib.Core.Path.{_≡_, refl, sym, _∙_}
-use mathlib.Core.List.{List, [], _∷_, _++_, map, List·Memᴰ, List·Memᴰ·head, List·Memᴰ·tail, Memᴰ·cast}
+use mathlib.Core.List.{List, [], _∷_, map, List·Memᴰ, List·Memᴰ·head, List·Memᴰ·tail, Memᴰ·cast}
 use mathlib.Core.Bool.{Bool, true, false, cond, false≢true}
 use native.Mathlib.Nat.{zero-mul, suc-mul, mul-suc}
 use native.Mathlib.Omega.{arith}
 use lib.ListN.{length, length-append, length-map}
 use lib.Dec.{eqb}
 use borrow.Author.Tests.{eq-eqb, eqb-true}
+use Rattle.automaton.specs.Lists.{keep}
 use Rattle.automaton.specs.Automaton.{Rule}
-use Rattle.simulation.specs.Simulation.{Each, Matched, Simulates, Relation, holds, keepPairs}
+use Rattle.automaton.proofs.Keeping.{keep-append, keep-shorter}
+use Rattle.simulation.specs.Simulation.{Each, Matched, Simulates, Relation, holds}
 use Rattle.simulation.specs.Simulation.{refine, allPairs, relationAt, rounds, relation}
 use Rattle.simulation.proofs.Search.{and-true-in}
 use Rattle.simulation.proofs.Refinement.{Within, related-member, member-related, pair-member, member-pair}
 use Rattle.simulation.proofs.Refinement.{refine-related, refine-out, holds-matched, matched-holds}
-use Rattle.simulation.proofs.Refinement.{keep-shorter, refine-shorter, refine-all}
+use Rattle.simulation.proofs.Refinement.{refine-shorter, refine-all}
 use Rattle.simulation.proofs.Refinement.{rounds-fixed, rounds-least}
 use Rattle.simulation.proofs.Language.{each-map, each-refl, simulates-compose}
 
@@ -105,17 +107,6 @@ module _ (rules : List Rule) (states : List ℕ) where
 
 -- The number of rounds.
 
-pub keep-append : (test : ℕ × ℕ → Bool) (R S : Relation)
-    → keepPairs test (R ++ S) ≡ keepPairs test R ++ keepPairs test S
-unfolding keepPairs
-keep-append test [] S = refl
-keep-append test (p ∷ R) S = rw (keep-append test R S) (go (test p))
-  where
-    go : (t : Bool) → cond t (p ∷ (keepPairs test R ++ keepPairs test S)) (keepPairs test R ++ keepPairs test S)
-        ≡ cond t (p ∷ keepPairs test R) (keepPairs test R) ++ keepPairs test S
-    go true = refl
-    go false = refl
-
 pub length-pairs : (qs rs : List ℕ) → length (allPairs qs rs) ≡ length qs * length rs
 unfolding allPairs
 length-pairs [] rs = sym (zero-mul (length rs))
@@ -124,17 +115,17 @@ length-pairs (q ∷ qs) rs =
 
 -- The pairs (q, q).
 unfoldable pub diagonal : Relation → Relation
-diagonal R = keepPairs (λ (p : ℕ × ℕ). eqb (p .0) (p .1)) R
+diagonal R = keep (λ (p : ℕ × ℕ). eqb (p .0) (p .1)) R
 
 pub diagonal-kept : (test : ℕ × ℕ → Bool) (R : Relation)
-    → ((p : ℕ × ℕ) → List·Memᴰ p R → p .0 ≡ p .1 → test p ≡ true) → diagonal (keepPairs test R) ≡ diagonal R
-unfolding diagonal keepPairs
+    → ((p : ℕ × ℕ) → List·Memᴰ p R → p .0 ≡ p .1 → test p ≡ true) → diagonal (keep test R) ≡ diagonal R
+unfolding diagonal keep
 diagonal-kept test [] h = refl
 diagonal-kept test (p ∷ ps) h =
     go (test p) refl (eqb (p .0) (p .1)) refl (diagonal-kept test ps (λ a m. h a (List·Memᴰ·tail m)))
   where
     kept : Relation
-    kept = keepPairs test ps
+    kept = keep test ps
 
     go : (t : Bool) → test p ≡ t → (d : Bool) → eqb (p .0) (p .1) ≡ d → diagonal kept ≡ diagonal ps
         → diagonal (cond t (p ∷ kept) kept) ≡ cond d (p ∷ diagonal ps) (diagonal ps)
@@ -144,7 +135,7 @@ diagonal-kept test (p ∷ ps) h =
     go false f false e rest = rest
 
 pub diagonal-row : {q : ℕ} {rs : List ℕ} → List·Memᴰ q rs → 1 ≤ length (diagonal (map (λ (r : ℕ). (q, r)) rs))
-unfolding diagonal keepPairs
+unfolding diagonal keep
 diagonal-row {q} (List·Memᴰ·head {x = r} e) = rw (eq-eqb q r e) (omega arith)
 diagonal-row {q} (List·Memᴰ·tail {x = r} {xs = rs} m) = go (eqb q r) (diagonal-row m)
   where
@@ -157,7 +148,7 @@ diagonal-row {q} (List·Memᴰ·tail {x = r} {xs = rs} m) = go (eqb q r) (diagon
 
 pub diagonal-pairs : (qs rs : List ℕ) → ((q : ℕ) → List·Memᴰ q qs → List·Memᴰ q rs)
     → length qs ≤ length (diagonal (allPairs qs rs))
-unfolding diagonal allPairs keepPairs
+unfolding diagonal allPairs keep
 diagonal-pairs [] rs h = omega arith
 diagonal-pairs (q ∷ qs) rs h =
     let row : Relation = map (λ (r : ℕ). (q, r)) rs in

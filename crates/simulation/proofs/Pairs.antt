@@ -2,14 +2,15 @@
 use Prim.Native.Nat.{ℕ, zero, suc, _+_}
 use mathlib.Core.Path.{_≡_, refl, sym, ap, _∙_}
 use mathlib.Core.Logic.{_⊎_, inl, inr}
-use mathlib.Core.List.{List, [], _∷_, map, List·Memᴰ, List·Memᴰ·head, List·Memᴰ·tail, Memᴰ·cast}
+use mathlib.Core.List.{List, [], _∷_, map, List·Memᴰ, Memᴰ·cast}
 use mathlib.Core.Bool.{Bool, true, false, cond, _&&_}
 use lib.ListN.{length, length-append}
 use Rattle.automaton.specs.Lists.{keep}
 use Rattle.automaton.specs.Automaton.{Rule}
-use Rattle.simulation.specs.Simulation.{Simulates, Matched, Relation, related, holds, keepPairs, refine, allPairs, relationAt, rounds, relation}
+use Rattle.automaton.proofs.Keeping.{keep-append, keep-both, keep-agree, keep-all}
+use Rattle.simulation.specs.Simulation.{Simulates, Matched, related, holds, refine, allPairs, relationAt, rounds, relation}
 use Rattle.simulation.proofs.Refinement.{Within, member-related, refine-related, holds-matched}
-use Rattle.simulation.proofs.Maximality.{keep-append, matched-map, relation-simulates, relation-largest, relation-states}
+use Rattle.simulation.proofs.Maximality.{matched-map, relation-simulates, relation-largest, relation-states}
 
 module _ (rules : List Rule) (states : List ℕ) where
   -- A pair all of whose rules are matched is in the relation: with it the relation would still be a simulation.
@@ -35,64 +36,41 @@ module _ (rules : List Rule) (states : List ℕ) where
       inside p s (inl w) = relation-states rules states p s w
       inside p s (inr e) = (Memᴰ·cast (e .0) mq, Memᴰ·cast (e .1) mr)
 
--- Pairs kept by two tests one after the other, by tests that agree, and by a test that all pass.
-keep-keep : (f g : ℕ × ℕ → Bool) (R : Relation) → keepPairs g (keepPairs f R) ≡ keepPairs (λ (p : ℕ × ℕ). f p && g p) R
-unfolding keepPairs
-keep-keep f g [] = refl
-keep-keep f g (p ∷ R) = go (f p) (keep-keep f g R)
-  where
-    go : (t : Bool) → keepPairs g (keepPairs f R) ≡ keepPairs (λ (p : ℕ × ℕ). f p && g p) R
-        → keepPairs g (cond t (p ∷ keepPairs f R) (keepPairs f R))
-        ≡ cond (t && g p) (p ∷ keepPairs (λ (p : ℕ × ℕ). f p && g p) R) (keepPairs (λ (p : ℕ × ℕ). f p && g p) R)
-    go true e = ap (λ (l : Relation). cond (g p) (p ∷ l) l) e
-    go false e = e
-
-keep-agree : (f g : ℕ × ℕ → Bool) → ((p : ℕ × ℕ) → f p ≡ g p) → (R : Relation) → keepPairs f R ≡ keepPairs g R
-unfolding keepPairs
-keep-agree f g e [] = refl
-keep-agree f g e (p ∷ R) = rw (e p, keep-agree f g e R)
-
-keep-passing : (f : ℕ × ℕ → Bool) (R : Relation) → ((p : ℕ × ℕ) → List·Memᴰ p R → f p ≡ true) → keepPairs f R ≡ R
-unfolding keepPairs
-keep-passing f [] h = refl
-keep-passing f (p ∷ R) h =
-    rw (h p (List·Memᴰ·head refl), keep-passing f R (λ q m. h q (List·Memᴰ·tail m)))
-
 -- The pairs that pass a test, counted row by row.
 unfoldable pub pairsIn : (ℕ → ℕ → Bool) → List ℕ → List ℕ → ℕ
 pairsIn f [] rs = 0
 pairsIn f (q ∷ qs) rs = length (keep (f q) rs) + pairsIn f qs rs
 
 row-length : (f : ℕ × ℕ → Bool) (q : ℕ) (rs : List ℕ)
-    → length (keepPairs f (map (λ (r : ℕ). (q, r)) rs)) ≡ length (keep (λ (r : ℕ). f (q, r)) rs)
-unfolding keepPairs keep
+    → length (keep f (map (λ (r : ℕ). (q, r)) rs)) ≡ length (keep (λ (r : ℕ). f (q, r)) rs)
+unfolding keep
 row-length f q [] = refl
 row-length f q (r ∷ rs) = go (f (q, r)) (row-length f q rs)
   where
-    go : (t : Bool) → length (keepPairs f (map (λ (r : ℕ). (q, r)) rs)) ≡ length (keep (λ (r : ℕ). f (q, r)) rs)
-        → length (cond t ((q, r) ∷ keepPairs f (map (λ (r : ℕ). (q, r)) rs)) (keepPairs f (map (λ (r : ℕ). (q, r)) rs)))
+    go : (t : Bool) → length (keep f (map (λ (r : ℕ). (q, r)) rs)) ≡ length (keep (λ (r : ℕ). f (q, r)) rs)
+        → length (cond t ((q, r) ∷ keep f (map (λ (r : ℕ). (q, r)) rs)) (keep f (map (λ (r : ℕ). (q, r)) rs)))
         ≡ length (cond t (r ∷ keep (λ (r : ℕ). f (q, r)) rs) (keep (λ (r : ℕ). f (q, r)) rs))
     go true e = ap suc e
     go false e = e
 
-all-length : (f : ℕ × ℕ → Bool) (qs rs : List ℕ) → length (keepPairs f (allPairs qs rs)) ≡ pairsIn (λ (q r : ℕ). f (q, r)) qs rs
-unfolding allPairs keepPairs pairsIn
+all-length : (f : ℕ × ℕ → Bool) (qs rs : List ℕ) → length (keep f (allPairs qs rs)) ≡ pairsIn (λ (q r : ℕ). f (q, r)) qs rs
+unfolding allPairs keep pairsIn
 all-length f [] rs = refl
 all-length f (q ∷ qs) rs =
     rw (keep-append f (map (λ (r : ℕ). (q, r)) rs) (allPairs qs rs), length-append, row-length f q rs, all-length f qs rs)
 
 module _ (rules : List Rule) (states : List ℕ) where
   kept-round : (j : ℕ) → relationAt rules states j
-      ≡ keepPairs (λ (p : ℕ × ℕ). related (relationAt rules states j) (p .0) (p .1)) (allPairs states states)
+      ≡ keep (λ (p : ℕ × ℕ). related (relationAt rules states j) (p .0) (p .1)) (allPairs states states)
   unfolding relationAt refine
-  kept-round zero = sym (keep-passing _ (allPairs states states) (λ p m. member-related m))
+  kept-round zero = sym (keep-all _ (allPairs states states) (λ p m. member-related m))
   kept-round (suc j) =
       let R = relationAt rules states j in
       let before : ℕ × ℕ → Bool = λ (p : ℕ × ℕ). related R (p .0) (p .1) in
-      ap (keepPairs (holds rules R)) (kept-round j)
-      ∙ keep-keep before (holds rules R) (allPairs states states)
+      ap (keep (holds rules R)) (kept-round j)
+      ∙ keep-both (holds rules R) before (allPairs states states)
       ∙ keep-agree (λ (p : ℕ × ℕ). before p && holds rules R p) _
-      (λ p. sym (refine-related rules R (p .0) (p .1))) (allPairs states states)
+      (allPairs states states) (λ p m. sym (refine-related rules R (p .0) (p .1)))
 
   pub relation-length : length (relation rules states) ≡ pairsIn (related (relation rules states)) states states
   unfolding relation

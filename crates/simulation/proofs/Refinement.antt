@@ -10,10 +10,12 @@ use native.Mathlib.Omega.{arith}
 use lib.ListN.{length}
 use lib.Dec.{eqb}
 use borrow.Author.Tests.{eq-eqb, eqb-true, eqb-false}
+use Rattle.automaton.specs.Lists.{keep}
 use Rattle.automaton.specs.Automaton.{Rule}
+use Rattle.automaton.proofs.Keeping.{keep-shorter, keep-full}
 use Rattle.simulation.specs.Tree.{any}
 use Rattle.simulation.specs.Simulation.{Each, none, also, Matched, Relation, related, paired, matches, holds}
-use Rattle.simulation.specs.Simulation.{matched, keepPairs, refine, allPairs, relationAt, settle}
+use Rattle.simulation.specs.Simulation.{matched, refine, allPairs, relationAt, settle}
 use Rattle.simulation.specs.Simulation.{rounds, relation}
 use Rattle.simulation.proofs.Search.{and-true-out, and-true-in, any-in, any-out, every-in, every-out}
 
@@ -61,13 +63,13 @@ member-pair (p ∷ ps) rs {q} {r} m = go (member-pair ps rs) (List·Memᴰ·appe
 -- What a round keeps.
 
 pub keep-related : (test : ℕ × ℕ → Bool) (R : Relation) (q r : ℕ)
-    → related (keepPairs test R) q r ≡ (related R q r && test (q, r))
-unfolding related keepPairs any
+    → related (keep test R) q r ≡ (related R q r && test (q, r))
+unfolding related keep any
 keep-related test [] q r = refl
 keep-related test (p ∷ ps) q r = go (eqb (p .0) q && eqb (p .1) r) refl (test p) refl (keep-related test ps q r)
   where
     kept : Relation
-    kept = keepPairs test ps
+    kept = keep test ps
 
     go : (m : Bool) → (eqb (p .0) q && eqb (p .1) r) ≡ m → (k : Bool) → test p ≡ k
         → related kept q r ≡ (related ps q r && test (q, r))
@@ -134,35 +136,13 @@ matched-holds rules R q r h = every-in _ rules (λ u m. go u m (eqb (u .target) 
 
 -- The rounds.
 
-pub keep-shorter : (test : ℕ × ℕ → Bool) (R : Relation) → length (keepPairs test R) ≤ length R
-unfolding keepPairs
-keep-shorter test [] = omega arith
-keep-shorter test (p ∷ ps) = go (test p) (keep-shorter test ps)
-  where
-    go : (t : Bool) → length (keepPairs test ps) ≤ length ps
-        → length (cond t (p ∷ keepPairs test ps) (keepPairs test ps)) ≤ suc (length ps)
-    go true l = omega arith
-    go false l = omega arith
-
-pub keep-all : (test : ℕ × ℕ → Bool) (R : Relation) → length (keepPairs test R) ≡ length R → keepPairs test R ≡ R
-unfolding keepPairs
-keep-all test [] e = refl
-keep-all test (p ∷ ps) e = go (test p) (keep-all test ps) (keep-shorter test ps) e
-  where
-    go : (t : Bool) → (length (keepPairs test ps) ≡ length ps → keepPairs test ps ≡ ps)
-        → length (keepPairs test ps) ≤ length ps
-        → length (cond t (p ∷ keepPairs test ps) (keepPairs test ps)) ≡ suc (length ps)
-        → cond t (p ∷ keepPairs test ps) (keepPairs test ps) ≡ p ∷ ps
-    go true rest l e = ap (λ (R : Relation). p ∷ R) (rest (omega arith))
-    go false rest l e = absurd (omega arith)
-
 pub refine-shorter : (rules : List Rule) (R : Relation) → length (refine rules R) ≤ length R
 unfolding refine
 refine-shorter rules R = keep-shorter (holds rules R) R
 
 pub refine-all : (rules : List Rule) (R : Relation) → length (refine rules R) ≡ length R → refine rules R ≡ R
 unfolding refine
-refine-all rules R = keep-all (holds rules R) R
+refine-all rules R = keep-full (holds rules R) R
 
 module _ (rules : List Rule) (states : List ℕ) where
   -- Where `settle` stops that starts in round j.

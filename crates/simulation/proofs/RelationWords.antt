@@ -18,7 +18,8 @@ use Rattle.automaton.specs.StateSet.{member, words, emptySet, replaced, withSta
 use Rattle.automaton.specs.Inner.{over}
 use Rattle.automaton.proofs.StateSets.{words-getD, bit, bit-suc}
 use Rattle.automaton.proofs.StateSets.{member-setOf, length-setOf, states-of-set}
-use Rattle.automaton.proofs.WrittenBytes.{from-step, length-from, keep-append, over-then}
+use Rattle.automaton.proofs.WrittenBytes.{from-step, length-from, over-then}
+use Rattle.automaton.proofs.Keeping.{keep-append}
 use Rattle.simulation.specs.Simulation.{Relation, related}
 use Rattle.simulation.specs.Query.{bitsFrom, rowBytes, relationRows}
 use Rattle.simulation.specs.Words.{statesIn, rowWords, rowsWords, relationWords}

@@ -15,13 +15,13 @@ use borrow.Author.Tests.{eqb-true, eqb-false, ltb-true, ltb-false, lt-ltb, le-lt
 use Rattle.automaton.specs.Lists.{from, keep}
 use Rattle.automaton.specs.Automaton.{Rule}
 use Rattle.automaton.specs.StateSet.{member, words, emptySet, replaced, withState, withAll, setOf}
+use Rattle.automaton.proofs.Keeping.{keep-append}
 use Rattle.automaton.proofs.StateSets.{below-four, member-with, member-setOf, length-setOf, same-members}
-use Rattle.simulation.specs.Simulation.{Relation, related, holds, keepPairs, refine, allPairs}
+use Rattle.simulation.specs.Simulation.{Relation, related, holds, refine, allPairs}
 use Rattle.simulation.specs.Words.{statesIn, rowWords, rowsWords}
 use Rattle.simulation.specs.Inner.{Has, relationIn}
 use Rattle.simulation.proofs.Ranges.{from-member, member-from, keep-none, elem-keep}
 use Rattle.simulation.proofs.Refinement.{member-related, pair-member, member-pair, keep-related, refine-related}
-use Rattle.simulation.proofs.Maximality.{keep-append}
 
 -- The elements of a range that pass a test.
 
@@ -48,24 +48,24 @@ states-below set low n h has =
 -- Pairs that are kept.
 
 keep-pairs-same : (f g : ℕ × ℕ → Bool) (R : Relation) → ((p : ℕ × ℕ) → List·Memᴰ p R → f p ≡ g p)
-    → keepPairs f R ≡ keepPairs g R
-unfolding keepPairs
+    → keep f R ≡ keep g R
+unfolding keep
 keep-pairs-same f g [] h = refl
 keep-pairs-same f g (p ∷ ps) h =
     ap₂ (λ (t : Bool) (l : Relation). cond t (p ∷ l) l) (h p (List·Memᴰ·head refl))
     (keep-pairs-same f g ps (λ a m. h a (List·Memᴰ·tail m)))
 
 keep-pairs-twice : (f g : ℕ × ℕ → Bool) (R : Relation)
-    → keepPairs g (keepPairs f R) ≡ keepPairs (λ (p : ℕ × ℕ). f p && g p) R
-unfolding keepPairs
+    → keep g (keep f R) ≡ keep (λ (p : ℕ × ℕ). f p && g p) R
+unfolding keep
 keep-pairs-twice f g [] = refl
 keep-pairs-twice f g (p ∷ ps) = go (f p) (keep-pairs-twice f g ps)
   where
     both : Relation
-    both = keepPairs (λ (p : ℕ × ℕ). f p && g p) ps
+    both = keep (λ (p : ℕ × ℕ). f p && g p) ps
 
-    go : (t : Bool) → keepPairs g (keepPairs f ps) ≡ both
-        → keepPairs g (cond t (p ∷ keepPairs f ps) (keepPairs f ps)) ≡ cond (t && g p) (p ∷ both) both
+    go : (t : Bool) → keep g (keep f ps) ≡ both
+        → keep g (cond t (p ∷ keep f ps) (keep f ps)) ≡ cond (t && g p) (p ∷ both) both
     go true e = rw e
     go false e = e
 
@@ -74,14 +74,14 @@ module _ (f g : ℕ → Bool) where
   both p = f (p .0) && g (p .1)
 
   keep-row : (q : ℕ) (rs : List ℕ) (t : Bool) → f q ≡ t
-      → keepPairs both (map (λ (r : ℕ). (q, r)) rs) ≡ cond t (map (λ (r : ℕ). (q, r)) (keep g rs)) []
-  unfolding keepPairs keep
+      → keep both (map (λ (r : ℕ). (q, r)) rs) ≡ cond t (map (λ (r : ℕ). (q, r)) (keep g rs)) []
+  unfolding keep
   keep-row q [] true e = refl
   keep-row q [] false e = refl
   keep-row q (r ∷ rs) true e = rw e (go (g r) (keep-row q rs true e))
     where
       row : Relation
-      row = keepPairs both (map (λ (r : ℕ). (q, r)) rs)
+      row = keep both (map (λ (r : ℕ). (q, r)) rs)
 
       go : (t : Bool) → row ≡ map (λ (r : ℕ). (q, r)) (keep g rs)
           → cond t ((q, r) ∷ row) row ≡ map (λ (r : ℕ). (q, r)) (cond t (r ∷ keep g rs) (keep g rs))
@@ -89,18 +89,18 @@ module _ (f g : ℕ → Bool) where
       go false e = e
   keep-row q (r ∷ rs) false e = rw e (keep-row q rs false e)
 
-  pub keep-all-pairs : (qs rs : List ℕ) → allPairs (keep f qs) (keep g rs) ≡ keepPairs both (allPairs qs rs)
-  unfolding allPairs keepPairs keep
+  pub keep-all-pairs : (qs rs : List ℕ) → allPairs (keep f qs) (keep g rs) ≡ keep both (allPairs qs rs)
+  unfolding allPairs keep
   keep-all-pairs [] rs = refl
   keep-all-pairs (q ∷ qs) rs =
       go (f q) refl (keep-all-pairs qs rs)
       ∙ sym (keep-append both (map (λ (r : ℕ). (q, r)) rs) (allPairs qs rs))
     where
       row : Relation
-      row = keepPairs both (map (λ (r : ℕ). (q, r)) rs)
+      row = keep both (map (λ (r : ℕ). (q, r)) rs)
 
-      go : (t : Bool) → f q ≡ t → allPairs (keep f qs) (keep g rs) ≡ keepPairs both (allPairs qs rs)
-          → allPairs (cond t (q ∷ keep f qs) (keep f qs)) (keep g rs) ≡ row ++ keepPairs both (allPairs qs rs)
+      go : (t : Bool) → f q ≡ t → allPairs (keep f qs) (keep g rs) ≡ keep both (allPairs qs rs)
+          → allPairs (cond t (q ∷ keep f qs) (keep f qs)) (keep g rs) ≡ row ++ keep both (allPairs qs rs)
       go true e later = rw (keep-row q rs true e, later)
       go false e later = rw (keep-row q rs false e, later)
 
@@ -123,7 +123,7 @@ related-in matrix q r a b =
 
 pub relation-is : (matrix : List (List ℕ)) (test : ℕ × ℕ → Bool)
     → ((q : ℕ) → q < 256 → Has (getD matrix q []) (λ (r : ℕ). test (q, r)))
-    → relationIn matrix ≡ keepPairs test (allPairs (from 0 256) (from 0 256))
+    → relationIn matrix ≡ keep test (allPairs (from 0 256) (from 0 256))
 unfolding relationIn
 relation-is matrix test has =
     keep-pairs-same _ test (allPairs (from 0 256) (from 0 256))

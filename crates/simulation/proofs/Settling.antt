@@ -13,10 +13,11 @@ use borrow.Author.Tests.{eq-eqb, ne-eqb, eqb-true, eqb-false, not-true}
 use Rattle.automaton.specs.Lists.{from}
 use Rattle.automaton.specs.Automaton.{Rule}
 use Rattle.automaton.specs.StateSet.{member}
+use Rattle.automaton.proofs.Keeping.{keep-shorter}
 use Rattle.automaton.proofs.WrittenBytes.{length-from}
 use Rattle.simulation.specs.Simulation.{Relation, refine, allPairs, relationAt, rounds, relation}
 use Rattle.simulation.specs.Inner.{relationIn, loses}
-use Rattle.simulation.proofs.Refinement.{keep-shorter, refine-shorter, refine-all, rounds-fixed, rounds-least}
+use Rattle.simulation.proofs.Refinement.{refine-shorter, refine-all, rounds-fixed, rounds-least}
 use Rattle.simulation.proofs.Maximality.{length-pairs}
 
 -- Whether a round loses a pair.

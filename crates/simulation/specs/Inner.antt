@@ -15,7 +15,7 @@ use Rattle.automaton.specs.StateSet.{member}
 use Rattle.automaton.specs.Decoded.{ruleAt}
 use Rattle.simulation.specs.Tree.{Tree, any, belongs, accepts}
 use Rattle.simulation.specs.Postfix.{pushAll, single, judgeTree}
-use Rattle.simulation.specs.Simulation.{Relation, keepPairs, refine, allPairs, matched}
+use Rattle.simulation.specs.Simulation.{Relation, refine, allPairs, matched}
 use Rattle.simulation.specs.declared.evaluation.Height.{Height}
 use Rattle.simulation.specs.declared.evaluation.Height.the-variants as height
 
@@ -102,7 +102,7 @@ Has set test = (r : ℕ) → r < 256 → member set r ≡ test r
 
 -- The relation that 256 rows hold: row q is the set of the states that q is related to.
 unfoldable pub relationIn : List (List ℕ) → Relation
-relationIn matrix = keepPairs (λ (p : ℕ × ℕ). member (getD matrix (p .0) []) (p .1)) (allPairs (from 0 256) (from 0 256))
+relationIn matrix = keep (λ (p : ℕ × ℕ). member (getD matrix (p .0) []) (p .1)) (allPairs (from 0 256) (from 0 256))
 
 -- Whether a round loses a pair.
 unfoldable pub loses : List Rule → Relation → Bool

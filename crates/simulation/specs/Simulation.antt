@@ -5,6 +5,7 @@ use mathlib.Core.List.{List, [], _∷_, _++_, map, List·Memᴰ}
 use mathlib.Core.Bool.{Bool, true, false, not, cond, _&&_, _||_}
 use lib.ListN.{length}
 use lib.Dec.{eqb}
+use Rattle.automaton.specs.Lists.{keep}
 use Rattle.automaton.specs.Automaton.{Rule}
 use Rattle.simulation.specs.Tree.{any}
 
@@ -54,13 +55,9 @@ matched rules R r u = any (λ (v : Rule). eqb (v .target) r && matches R u v) ru
 unfoldable pub holds : List Rule → Relation → ℕ × ℕ → Bool
 holds rules R p = every (λ (u : Rule). not (eqb (u .target) (p .0)) || matched rules R (p .1) u) rules
 
-unfoldable pub keepPairs : (ℕ × ℕ → Bool) → Relation → Relation
-keepPairs test [] = []
-keepPairs test (p ∷ ps) = cond (test p) (p ∷ keepPairs test ps) (keepPairs test ps)
-
 -- R(j+1) from Rj.
 unfoldable pub refine : List Rule → Relation → Relation
-refine rules R = keepPairs (holds rules R) R
+refine rules R = keep (holds rules R) R
 
 -- R0: all pairs of some states.
 unfoldable pub allPairs : List ℕ → List ℕ → Relation

@@ -1,6 +1,5 @@
 -- `reduction::reducing::reduce` meets its contract: what the arrays hold is reduced and written, or the refusal handed on.
 use borrow.Author.Needs.{needs}
-use native.Mathlib.Omega.{arith}
 use denote.Ref.{now}
 use mathlib.Core.Path.{_≡_, refl, sym, ap, _∙_}
 use Prim.Native.Nat.{ℕ}

@@ -1,13 +1,9 @@
 -- `reduction::steps::group` meets its contract: the names are the representatives, and of equal renamed rules the first are marked.
 use borrow.Author.Needs.{needs}
 use native.Mathlib.Omega.{arith}
-use Prim.Native.Nat.{ℕ, _<_}
-use mathlib.Core.Path.{_≡_, refl, sym, ap, _∙_}
-use mathlib.Core.Bool.{true}
-use Rattle.automaton.specs.Lists.{from}
-use Rattle.simulation.specs.Inner.{RowRanged}
-use Rattle.reduction.specs.Steps.{Stage, below, equivalent, firstOf}
-use Rattle.reduction.specs.Inner.{nameIn, stageIn}
+use mathlib.Core.Path.{_∙_}
+use Rattle.reduction.specs.Steps.{Stage}
+use Rattle.reduction.specs.Inner.{stageIn}
 use Rattle.reduction.proofs.Staged.{marked-few}
 use Rattle.reduction.proofs.Stepping.{renamed-ranged, grouped-rules, grouped-finals}
 use Rattle.reduction.proofs.steps.group.Statement.{statement}

@@ -1,9 +1,8 @@
 -- `reduction::steps::reduce_rows` meets its contract: step 1 leaves the trimmed stage, on which steps 2 to 6 work.
-use borrow.Author.Needs.{needs}
 use native.Mathlib.Omega.{arith}
 use Prim.Native.Nat.{_≤_}
 use mathlib.Core.Path.{_≡_, refl, sym, ap, _∙_}
-use Rattle.automaton.specs.Automaton.{Automaton, WellFormed}
+use Rattle.automaton.specs.Automaton.{Automaton}
 use Rattle.automaton.specs.Decoded.{automatonIn}
 use Rattle.automaton.proofs.WrittenBytes.{few-states, few-rules}
 use Rattle.simulation.specs.Words.{rulesIn}

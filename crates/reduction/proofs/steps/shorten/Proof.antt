@@ -1,9 +1,7 @@
 -- `reduction::steps::shorten` meets its contract: each step leaves the next stage, whose rows are in range for the step behind it.
-use borrow.Author.Needs.{needs}
 use native.Mathlib.Omega.{arith}
-use Prim.Native.Nat.{ℕ, _≤_}
-use mathlib.Core.Path.{_≡_, refl}
-use mathlib.Core.List.{List, List·Memᴰ}
+use mathlib.Core.Path.{refl}
+use mathlib.Core.List.{List·Memᴰ}
 use Rattle.automaton.specs.Automaton.{Rule}
 use Rattle.reduction.specs.Steps.{Stage, below, quotient, pruned, restricted}
 use Rattle.reduction.specs.Reduce.{shortened}
