@@ -1,7 +1,7 @@
 -- Demand 3 of the bytes: the bytes that are written are read back as the reduced automaton, of which all of it holds.
 use Prim.Native.Nat.{ℕ, _≤_, _<_}
 use native.Mathlib.Omega.{arith}
-use mathlib.Core.Path.{_≡_, refl, ap}
+use mathlib.Core.Path.{_≡_, refl, sym, ap, _∙_}
 use mathlib.Core.List.{List}
 use lib.ListN.{length, take, getD}
 use Rattle.automaton.specs.Automaton.{Automaton, WellFormed}
@@ -76,6 +76,10 @@ demand-3-from table out A bytes e fits =
       same-trees = λ t over. (accepted-reduced A w t, reduced-accepted A w t);
       same-answer = alike;
       same-counts = λ counts tree. ap (counted counts) (alike tree);
+      same-check = λ counts tree c d h k. (
+        h .answer ∙ alike tree ∙ sym (k .answer),
+        h .counts-after ∙ ap (counted counts) (alike tree) ∙ sym (k .counts-after),
+      );
       irreducible = irreducible A w;
       again = again-from A w;
     }

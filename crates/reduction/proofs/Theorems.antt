@@ -61,7 +61,7 @@ module _ (A : Automaton) (w : WellFormed A) where
   unfolding reductionRounds roundsIn
   rounds-least = refinement.rounds-least (trimmed A .rules) (trimmed A .states)
 
-  -- Step 3: a representative is the smallest state of its group, and ≤ between groups is that of any members.
+  -- Step 3: a representative is the smallest state of its block, and ≤ between blocks is that of any members.
   pub representative-equivalent : (q : ℕ) → List·Memᴰ q (trimmed A .states)
       → equivalent (below (trimmed A)) q (representative (below (trimmed A)) (trimmed A .states) q) ≡ true
   unfolding equivalent
@@ -85,7 +85,7 @@ module _ (A : Automaton) (w : WellFormed A) where
       let b = and-true-out (related (below (trimmed A)) r s) (related (below (trimmed A)) s r) f in
       through q p s (a .1) (through p r s h (b .0))
 
-  -- Step 5 keeps the final groups and the children of rules whose target is kept, and nothing that does not follow from these.
+  -- Step 5 keeps the final blocks and the children of rules whose target is kept, and nothing that does not follow from these.
   abbrev undominated : Stage
   undominated = pruned (below (trimmed A)) (quotient (below (trimmed A)) (trimmed A))
 
@@ -109,7 +109,7 @@ module _ (A : Automaton) (w : WellFormed A) where
   pub same-trees : (t : Tree) → Over (A .ranks) t → Accepts A t ↔ Accepts (reduce A) t
   same-trees t over = (agreement.accepted-reduced A w t, agreement.reduced-accepted A w t)
 
-  -- Every state takes part in an accepted tree, no two different states simulate each other, no rule stands twice or is outdone.
+  -- Every state takes part in an accepted tree, no two different states simulate each other, no rule stands twice or is dominated.
   pub reduced-irreducible : Irreducible (reduce A)
   reduced-irreducible = agreement.irreducible A w
 

@@ -10,7 +10,8 @@ use Rattle.automaton.specs.Read.{found}
 use Rattle.automaton.specs.Table.{judge}
 use Rattle.simulation.specs.Tree.{Tree, Over}
 use Rattle.simulation.specs.Run.{Accepts}
-use Rattle.simulation.specs.Check.{acceptance, counted}
+use Rattle.simulation.specs.Check.{acceptanceOf, acceptance, counted, Checks}
+use Rattle.simulation.specs.declared.checking.Checked.{Checked}
 use Rattle.simulation.specs.declared.checking.Counts.{Counts}
 use Rattle.reduction.specs.Reduce.{reductionRounds, reduction, reductionAfter}
 use Rattle.reduction.specs.Irreducible.{Irreducible}
@@ -49,7 +50,10 @@ pub record Demand3 (table out : List ℕ) (r : Reduction) (bytes : List ℕ) : T
   -- same counts.
   pub same-answer : (tree : List ℕ) → acceptance table tree ≡ acceptance bytes tree
   pub same-counts : (counts : Counts) (tree : List ℕ) → counted counts (acceptance table tree) ≡ counted counts (acceptance bytes tree)
-  -- Every state takes part in an accepted tree, no two different states simulate each other, no rule stands twice or is outdone.
+  -- The same of the call: two checks that meet its promise.
+  pub same-check : (counts : Counts) (tree : List ℕ) (c d : Checked) → Checks counts table tree c → Checks counts bytes tree d
+      → (acceptanceOf (c .answer) ≡ acceptanceOf (d .answer)) × (c .counts ≡ d .counts)
+  -- Every state takes part in an accepted tree, no two different states simulate each other, no rule stands twice or is dominated.
   pub irreducible : Irreducible reduced
   -- Reduced again means with an output not shorter than it.
   pub again : (room : List ℕ) → length bytes ≤ length room → Again bytes room

@@ -1,5 +1,5 @@
 -- Demand 3's words on states and rules, meant for a well-formed table: every state takes part in an accepted tree, no two different states
--- simulate each other, no rule stands twice and no rule is outdone.
+-- simulate each other, no rule stands twice and no rule is dominated.
 use Prim.Native.Nat.{ℕ, _<_}
 use mathlib.Core.Path.{_≡_}
 use mathlib.Core.List.{List, [], _∷_, List·Memᴰ}

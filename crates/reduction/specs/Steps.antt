@@ -1,5 +1,5 @@
--- The six steps of reduction, in document 01's order. States keep their numbers until the last step: a group goes by its smallest
--- member, its representative, so that the representatives stand in the order of the groups.
+-- The six steps of reduction, in document 01's order. States keep their numbers until the last step: a block (document 01: "group") goes by
+-- its smallest member, its representative, so that the representatives stand in the order of the blocks.
 use Prim.Native.Nat.{ℕ, zero, suc}
 use mathlib.Core.List.{List, [], _∷_, map}
 use mathlib.Core.Bool.{Bool, true, false, not, cond, _&&_, _||_}
@@ -54,8 +54,8 @@ below S = relation (S .rules) (S .states)
 unfoldable pub roundsIn : Stage → ℕ
 roundsIn S = rounds (S .rules) (S .states)
 
--- Step 3: group states that are ≤ each other; number groups by smallest member. Rewrite rules and final states, these in order and each
--- once; of equal rules the first stays. Between groups ≤ is that of any members: here, of the representatives.
+-- Step 3: the states that are ≤ each other form a block; number blocks by smallest member. Rewrite rules and final states, these in order
+-- and each once; of equal rules the first stays. Between blocks ≤ is that of any members: here, of the representatives.
 unfoldable pub equivalent : Relation → ℕ → ℕ → Bool
 equivalent R q r = related R q r && related R r q
 
@@ -90,8 +90,8 @@ quotient R S = record {
   rules = firsts (map (renamed (representative R (S .states))) (S .rules));
 }
 
--- Step 4: a rule is outdone (here: dominated) by another of the same symbol and target if each of its children is ≤ the other's and at
--- least one differs. Drop together all rules outdone among those of step 3.
+-- Step 4: a rule is dominated (document 01: "outdone") by another of the same symbol and target if each of its children is ≤ the other's
+-- and at least one differs. Drop together all rules dominated among those of step 3.
 unfoldable pub dominatedBy : Relation → Rule → Rule → Bool
 dominatedBy R u v = eqb (u .target) (v .target) && (matches R u v && not (sameStates (u .children) (v .children)))
 
@@ -105,8 +105,8 @@ pruned R S = record {
   rules = keep (λ (u : Rule). not (dominated R (S .rules) u)) (S .rules);
 }
 
--- Step 5: keep final groups and, repeatedly, the children of rules whose target is kept. Drop the remaining groups with their rules. All
--- final groups stay, and so do all children of the rules that stay.
+-- Step 5: keep final blocks and, repeatedly, the children of rules whose target is kept. Drop the remaining blocks with their rules. All
+-- final blocks stay, and so do all children of the rules that stay.
 unfoldable pub needed : Stage → List ℕ → ℕ → Bool
 needed S found q = among (S .finals) q || any (λ (u : Rule). among found (u .target) && among (u .children) q) (S .rules)
 
@@ -120,7 +120,7 @@ restricted S = record {
   rules = keep (λ (u : Rule). among (kept S) (u .target)) (S .rules);
 }
 
--- Step 6: number the kept groups in order: n and k new, m and ranks old, rules in their old order. A kept group's number is where it
+-- Step 6: number the kept blocks in order: n and k new, m and ranks old, rules in their old order. A kept block's number is where it
 -- stands among the kept ones.
 unfoldable pub position : List ℕ → ℕ → ℕ
 position [] q = 0
