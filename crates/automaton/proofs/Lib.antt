@@ -7,6 +7,7 @@ pub mod Fields
 pub mod Scanning
 pub mod Records
 pub mod Inversion
+pub mod Causes
 pub mod Judging
 pub mod Encoding
 pub mod StateSets

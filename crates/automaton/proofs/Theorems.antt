@@ -6,13 +6,14 @@ use mathlib.Core.Bool.{false, not, _&&_, _||_}
 use lib.ListN.{length, getD}
 use lib.Dec.{eqb}
 use Rattle.automaton.specs.Automaton.{Automaton, WellFormed}
-use Rattle.automaton.specs.Read.{found}
+use Rattle.automaton.specs.Read.{found, refused}
 use Rattle.automaton.specs.Table.{judge, encode}
 use Rattle.automaton.specs.StateSet.{member, emptySet, withState, withoutState, unionOf, setOf}
 use Rattle.automaton.specs.Decoded.{sizeOf, rows, automatonIn, Decodes}
 use Rattle.automaton.specs.declared.decoding.Decoded.{Decoded}
 use Rattle.automaton.specs.declared.table.Size.{Size}
 use Rattle.automaton.specs.declared.table.Judged.the-variants.{Table}
+use Rattle.automaton.proofs.Causes as causes
 use Rattle.automaton.proofs.Encoding as encoding
 use Rattle.automaton.proofs.StateSets as sets
 use Rattle.automaton.proofs.Meaning as meaning
@@ -20,6 +21,10 @@ use Rattle.automaton.proofs.Meaning as meaning
 -- A table that is judged without a refusal is a well-formed automaton.
 pub judged-well-formed : (b : List ℕ) (A : Automaton) → judge b ≡ found A → WellFormed A
 judged-well-formed = encoding.judge-well-formed
+
+-- One that is refused has one of causes 1 to 7.
+pub judge-causes : (b : List ℕ) (cause : ℕ) → judge b ≡ refused cause → (1 ≤ cause) × (cause ≤ 7)
+judge-causes b cause = causes.cause-of (causes.table-causes b)
 
 -- Encoding what was judged gives the same bytes back.
 pub encode-judged : (b : List ℕ) (A : Automaton) → ((i : ℕ) → getD b i 0 < 256) → judge b ≡ found A → encode A ≡ b

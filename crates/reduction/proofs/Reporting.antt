@@ -2,34 +2,35 @@
 use Prim.Native.Nat.{ℕ, _+_, _*_, _-_, _≤_, _<_}
 use native.Mathlib.Nat.{zero-add, mul-le-mul}
 use native.Mathlib.Omega.{arith}
-use mathlib.Core.Path.{_≡_, refl, _∙_}
+use mathlib.Core.Path.{_≡_, refl, sym, _∙_}
 use mathlib.Core.List.{List, [], _∷_, _++_}
-use lib.ListN.{length, take, drop, length-map}
+use lib.ListN.{length, take, drop, length-append, length-map}
 use Rattle.automaton.specs.Lists.{from}
 use Rattle.automaton.specs.Automaton.{Automaton, WellFormed}
 use Rattle.automaton.specs.Refusal.{numberOf}
-use Rattle.automaton.specs.Read.{refused}
+use Rattle.automaton.specs.Read.{Read, found, refused}
 use Rattle.automaton.specs.Table.{judge}
-use Rattle.automaton.specs.Decoded.{automatonIn}
+use Rattle.automaton.specs.Decoded.{sizeOf, automatonIn}
 use Rattle.automaton.specs.Inner.{over}
 use Rattle.automaton.specs.declared.refusal.Refusal.{Refusal}
 use Rattle.automaton.specs.declared.refusal.Refusal.the-variants.{Broken, Kind, Length, Limit, Range, Order, Count}
 use Rattle.automaton.specs.declared.refusal.Refusal.the-variants.{Tree, Symbol, Shape, Bound, State, Room}
 use Rattle.automaton.specs.declared.table.Size.{Size}
+use Rattle.automaton.proofs.Theorems.{judge-causes, judged-well-formed}
 use Rattle.automaton.proofs.Meaning.{Held}
 use Rattle.automaton.proofs.WrittenBytes.{length-from, over-behind, few-states, few-rules}
 use Rattle.simulation.proofs.Maximality.{Closed, rounds-below}
 use Rattle.reduction.specs.Steps.{buildable, productive, trimmed, roundsIn}
 use Rattle.reduction.specs.Reduce.{reduce, reductionRounds}
-use Rattle.reduction.specs.Report.{line, refusedWord, reportOf, report}
+use Rattle.reduction.specs.Report.{line, numbersIn, refusedWord, reducedWord, statesWord, rulesWord, roundsWord, reportOf, report}
 use Rattle.reduction.specs.Inner.{reducedLines}
-use Rattle.reduction.proofs.Lettering.{Put}
+use Rattle.reduction.proofs.Lettering.{Put, single-end, pair-end}
 use Rattle.reduction.proofs.Trimming.{trimmed-sound}
 use Rattle.reduction.proofs.Counting.{closure-shorter, reduce-well-formed}
 
 -- A table that is refused.
 
-pub refusal-few : (cause : Refusal) → numberOf cause < 100000
+pub refusal-few : (cause : Refusal) → numberOf cause ≤ 13
 refusal-few Broken = omega arith
 refusal-few Kind = omega arith
 refusal-few Length = omega arith
@@ -83,6 +84,37 @@ module _ (b : List ℕ) (size : Size) (finals ranks cells : List ℕ) (held : He
   unfolding reducedLines reportOf automatonIn
   report-found =
       rw (held .judged, ← held .holds, ← reduced, ← counted) (simp (length-map, length-from))
+
+-- A report has at most 64 bytes.
+
+head-length : length (line reducedWord []) ≡ 8
+unfolding line numbersIn reducedWord
+head-length = refl
+
+lines-short : (old new : Size) (rounds : ℕ) → old .states < 100000 → new .states < 100000 → old .rules < 100000 → new .rules < 100000
+    → rounds < 100000 → length (reducedLines old new rounds) ≤ 64
+unfolding reducedLines statesWord rulesWord roundsWord
+lines-short old new rounds a b c d e =
+    simp length-append (omega (
+      arith,
+      head-length,
+      pair-end statesWord (old .states) (new .states) 0 a b (sym (zero-add _)),
+      pair-end rulesWord (old .rules) (new .rules) 0 c d (sym (zero-add _)),
+      single-end roundsWord rounds 0 e (sym (zero-add _)),
+    ))
+
+pub report-short : (input : List ℕ) → length (report input) ≤ 64
+unfolding report reportOf refusedWord reducedLines sizeOf
+report-short input = go (judge (take 27417 input)) refl
+  where
+    go : (j : Read Automaton) → judge (take 27417 input) ≡ j → length (reportOf j) ≤ 64
+    go (refused cause) e =
+        omega (arith, single-end refusedWord cause 0 (omega (arith, judge-causes _ cause e)) (sym (zero-add _)))
+    go (found A) e =
+        let w = judged-well-formed _ A e in
+        let v = reduce-well-formed A w in
+        lines-short (sizeOf A) (sizeOf (reduce A)) (reductionRounds A) (omega (arith, w .states)) (omega (arith, v .states))
+        (omega (arith, w .count)) (omega (arith, v .count)) (reduction-rounds-few A w)
 
 -- The report on an input, at the start of the buffer.
 pub report-written : (input part out : List ℕ) (end : ℕ) (now : List ℕ) → part ≡ take 27417 input

@@ -15,7 +15,7 @@ abbrev cause : tie.After-known-told → Refusal
 cause c = c .before .judged .given .0 .0
 
 put-single-requires : tie.Need-put-single-requires
-put-single-requires c κs = ((rw (c .number .ensures) (refusal-few (cause (c .before .before .before))), omega arith), omega arith)
+put-single-requires c κs = ((omega (arith, c .number .ensures, refusal-few (cause (c .before .before .before))), omega arith), omega arith)
 
 returns : tie.Need-returns
 unfolding refusedWord

@@ -1,0 +1,34 @@
+// Checking a tree against a table.
+ghost use mathlib.Core.Path.{_≡_};
+ghost use Rattle.fensullay.specs.Exports as spec;
+use crate::numbers::put_counts;
+use automaton::number;
+use simulation::Answer;
+use simulation::Counts;
+use simulation::check;
+
+// Checks a tree against a table: 0 accepted, 101 not accepted, or the refusal, 1 to 11; and one more of that answer in `counts`, which
+// are accepted, not accepted, refused. Or 100 where `counts` has fewer than 3.
+#[no_mangle]
+pub extern "C" fn fensullay_check(counts: &mut [u32], table: &[u8], tree: &[u8]) -> u32
+    ensures { λ r. ⌜ r ≡ spec.checkCode (now (counts .entry)) (now (table .entry)) (now (tree .entry)) ⌝ }
+    ensures { λ r. ⌜ now (counts .exit) ≡ spec.checkCounts (now (counts .entry)) (now (table .entry)) (now (tree .entry)) ⌝ }
+{
+    if counts.len() < 3 {
+        return 100;
+    }
+    let old = Counts {
+        accepted: counts[0],
+        rejected: counts[1],
+        refused: counts[2],
+    };
+    let checked = check(old, table, tree);
+    let new = checked.counts;
+    let answer = checked.answer;
+    put_counts(counts, new);
+    match answer {
+        Answer::Accepted => 0,
+        Answer::Rejected => 101,
+        Answer::Refused(cause) => number(cause),
+    }
+}
