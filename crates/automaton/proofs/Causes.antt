@@ -2,6 +2,7 @@
 use Prim.Native.Nat.{ℕ, zero, suc, _≤_}
 use native.Mathlib.Omega.{arith}
 use mathlib.Core.Path.{_≡_, subst}
+use mathlib.Core.Logic.{_⊎_, inl}
 use mathlib.Core.List.{List, [], _∷_}
 use mathlib.Core.Bool.{Bool, true, false, cond}
 use borrow.Author.Tests.{leb-true}
@@ -87,3 +88,10 @@ ranks-causes n m k b = search (causes, due-causes, finals-causes) depth 9
 pub table-causes : (b : List ℕ) → Causes TableCause (judge b)
 unfolding judge
 table-causes b = search (causes, due-causes, ranks-causes) depth 9
+
+-- Those, or one more, of what follows a table.
+abbrev pub TableCauseOr : ℕ → ℕ → Type 0
+TableCauseOr other cause = TableCause cause ⊎ (cause ≡ other)
+
+pub table-causes-or : (other : ℕ) (b : List ℕ) → Causes (TableCauseOr other) (judge b)
+table-causes-or other b = wider-causes (λ cause. inl) (table-causes b)

@@ -167,6 +167,12 @@ pub member-union : (ws vs : List ℕ) (r : ℕ) → r < 256 → member (unionOf 
 unfolding unionOf member bit
 member-union ws vs r h = member-words _ r h ∙ bit-or _ _ (r % 64)
 
+-- The first set without the second.
+pub member-minus : (ws vs : List ℕ) (r : ℕ) → r < 256
+    → member (words (λ (i : ℕ). bitXor (bitOr (getD ws i 0) (getD vs i 0)) (getD vs i 0))) r ≡ (not (member vs r) && member ws r)
+unfolding member bit
+member-minus ws vs r h = member-words _ r h ∙ rw (bit-xor, bit-or) (set-then-flipped (member ws r) (member vs r))
+
 -- Sets of lists.
 
 unfoldable pub elem : ℕ → List ℕ → Bool

@@ -1,3 +1,5 @@
 pub mod Answering
 pub mod Comparing
 pub mod Reported
+pub mod Means
+pub mod Theorems

@@ -14,7 +14,8 @@ use Rattle.automaton.proofs.WrittenBytes as written
 use Rattle.automaton.proofs.Keeping.{keep-out}
 use Rattle.simulation.specs.Words.{rulesIn}
 use Rattle.simulation.proofs.Ranges.{member-from}
-use Rattle.reduction.proofs.Overwriting.{over-from, over-rest, length-part, rowAt, row-decides}
+use Rattle.simulation.proofs.Parts.{length-part}
+use Rattle.reduction.proofs.Overwriting.{over-from, over-rest, rowAt, row-decides}
 
 -- Some rows, one behind the other.
 unfoldable pub gathered : List ℕ → List ℕ → List ℕ

@@ -23,7 +23,8 @@ use Rattle.reduction.specs.Steps.{quotient, dominated, pruned, kept, res
 use Rattle.reduction.specs.Reduce.{shortened, reduce}
 use Rattle.reduction.specs.Irreducible.{Irreducible}
 use Rattle.reduction.specs.Inner.{Sound}
-use Rattle.reduction.proofs.Members.{among-in, all-in, rising-same}
+use Rattle.simulation.proofs.Search.{all-in}
+use Rattle.reduction.proofs.Members.{among-in, rising-same}
 use Rattle.reduction.proofs.Closure.{closure-states}
 use Rattle.reduction.proofs.Trimming.{reached-productive, trimmed-sound}
 use Rattle.reduction.proofs.Firsts.{firsts-same}

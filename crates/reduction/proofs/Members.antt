@@ -23,16 +23,6 @@ pub among-in : {xs : List ℕ} {q : ℕ} → List·Memᴰ q xs → among xs q �
 unfolding among
 among-in {xs} {q} m = any-in (λ (p : ℕ). eqb p q) m (eq-eqb q q refl)
 
-pub all-in : (test : ℕ → Bool) (xs : List ℕ) → ((q : ℕ) → List·Memᴰ q xs → test q ≡ true) → all test xs ≡ true
-unfolding all
-all-in test [] h = refl
-all-in test (x ∷ xs) h = and-true-in (h x (List·Memᴰ·head refl)) (all-in test xs (λ q m. h q (List·Memᴰ·tail m)))
-
-pub all-out : (test : ℕ → Bool) {xs : List ℕ} → all test xs ≡ true → (q : ℕ) → List·Memᴰ q xs → test q ≡ true
-unfolding all
-all-out test h q (List·Memᴰ·head {x = x} {xs = xs} e) = ap test e ∙ and-true-out (test x) (all test xs) h .0
-all-out test h q (List·Memᴰ·tail {x = x} {xs = xs} m) = all-out test (and-true-out (test x) (all test xs) h .1) q m
-
 -- Two tests that pass the same are equal.
 pub same-bool : {s t : Bool} → (s ≡ true → t ≡ true) → (t ≡ true → s ≡ true) → s ≡ t
 same-bool {s = true} {t = true} f g = refl

@@ -11,6 +11,7 @@ use lib.Seq.{getD-take, getD-drop}
 use Rattle.automaton.specs.Decoded.{ruleAt}
 use Rattle.automaton.specs.Inner.{over}
 use Rattle.automaton.proofs.WrittenBytes.{over-copy}
+use Rattle.simulation.proofs.Parts.{length-part, part-at}
 
 pub getD-first : (l : List ℕ) (m : ℕ) → getD l m 0 ≡ getD (drop m l) 0 0
 getD-first l m = rw (getD-drop, add-zero)
@@ -39,25 +40,6 @@ module _ (out : List ℕ) (at : ℕ) (xs : List ℕ) (room : at ≤ length out) 
 
   pub over-later : (m : ℕ) → at + length xs ≤ m → getD (over out at xs) m 0 ≡ getD out m 0
   over-later m h = rw (getD-first (over out at xs) m, over-rest m h, ← getD-first out m)
-
--- A part of numbers.
-module _ (rows : List ℕ) (at count : ℕ) (room : at + count ≤ length rows) where
-  pub length-part : length (take count (drop at rows)) ≡ count
-  length-part = rw (length-take, length-drop) (omega arith)
-
-  pub part-at : (j : ℕ) → j < count → getD (take count (drop at rows)) j 0 ≡ getD rows (at + j) 0
-  part-at j h = rw (getD-take count (drop at rows) j 0 h, getD-drop)
-
-  pub part-step : (j : ℕ) → j < count
-      → drop j (take count (drop at rows)) ≡ getD rows (at + j) 0 ∷ drop (j + 1) (take count (drop at rows))
-  part-step j h =
-      let inside : j < length (take count (drop at rows)) = rw length-part h in
-      rw (add-one, drop-cons (take count (drop at rows)) j 0 inside, part-at j h)
-
-  pub part-end : (j : ℕ) → count ≤ j → drop j (take count (drop at rows)) ≡ []
-  part-end j h =
-      let all : length (take count (drop at rows)) ≤ j = rw length-part h in
-      drop-of-length-le (take count (drop at rows)) all
 
 -- A row.
 

@@ -30,8 +30,9 @@ use Rattle.simulation.proofs.Queries.{ranged-children}
 use Rattle.simulation.proofs.Preorder.{all-member}
 use Rattle.reduction.specs.Steps.{Stage, among, foundIn, closure, buildable, needed, kept}
 use Rattle.reduction.specs.Inner.{Sound, TargetsAdded, ChildrenAdded}
-use Rattle.reduction.proofs.Members.{among-in, among-out, all-in, all-out, same-bool}
-use Rattle.reduction.proofs.Overwriting.{part-step, part-end}
+use Rattle.simulation.proofs.Search.{all-in, all-out}
+use Rattle.reduction.proofs.Members.{among-in, among-out, same-bool}
+use Rattle.simulation.proofs.Parts.{part-step, part-end}
 use Rattle.reduction.proofs.Closure.{Monotone, closure-least, closure-closed, closure-found}
 use Rattle.reduction.proofs.Trimming.{buildable-in, buildable-out, buildable-monotone}
 use Rattle.reduction.proofs.Restricting.{Asked, needed-out, needed-monotone, finals-kept, children-kept}

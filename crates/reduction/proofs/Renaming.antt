@@ -21,7 +21,8 @@ use Rattle.simulation.specs.Tree.{any}
 use Rattle.simulation.specs.Words.{rulesIn}
 use Rattle.simulation.specs.Inner.{RowRanged, Has}
 use Rattle.reduction.specs.Steps.{renamed}
-use Rattle.reduction.proofs.Overwriting.{getD-first, over-front, over-before, over-from, over-rest, over-later, length-part, part-at}
+use Rattle.simulation.proofs.Parts.{length-part, part-at}
+use Rattle.reduction.proofs.Overwriting.{getD-first, over-front, over-before, over-from, over-rest, over-later}
 use Rattle.reduction.proofs.Overwriting.{rowAt, part-of-part, row-decides}
 
 -- The states of a part, one after the other.

@@ -1,6 +1,7 @@
 -- The bytes that reducing a table writes: they are the encoding of the reduced automaton, which is read back from them.
 use Prim.Native.Nat.{ℕ, _≤_}
 use mathlib.Core.Path.{_≡_, refl, sym, ap, _∙_}
+use mathlib.Core.Logic.{inr}
 use mathlib.Core.List.{List, _++_}
 use mathlib.Core.Bool.{Bool, true, false, cond}
 use lib.ListN.{length, take, drop}
@@ -14,6 +15,7 @@ use Rattle.automaton.specs.Read.{Read, found, refused, _>>=_}
 use Rattle.automaton.specs.Table.{judge, encode}
 use Rattle.automaton.specs.Decoded.{written, writtenOver}
 use Rattle.automaton.proofs.Inversion.{refused≢found, bind-found}
+use Rattle.automaton.proofs.Causes.{Causes, causes, TableCauseOr, table-causes-or}
 use Rattle.simulation.specs.Tree.{Tree, accepts}
 use Rattle.simulation.specs.Run.{Accepts}
 use Rattle.simulation.specs.Postfix.{judgeTree}
@@ -69,6 +71,10 @@ module _ (table out : List ℕ) (A : Automaton) (e : judge table ≡ found A) wh
 pub reduction-judged : (table out : List ℕ) (r : Reduction) → reduction table out ≡ found r → (A : Automaton) × (judge table ≡ found A)
 unfolding reduction
 reduction-judged table out r h = let s = bind-found (judge table) _ h in (s .0, s .1)
+
+pub reduction-causes : (table out : List ℕ) → Causes (TableCauseOr 13) (reduction table out)
+unfolding reduction written
+reduction-causes table out = search (causes, table-causes-or 13, inr) depth 9
 
 -- Automata that accept the same trees over the same ranks answer every check alike.
 pub acceptance-same : (table other : List ℕ) (A B : Automaton) → judge table ≡ found A → judge other ≡ found B → B .ranks ≡ A .ranks

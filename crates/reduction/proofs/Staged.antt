@@ -13,6 +13,7 @@ use Rattle.automaton.specs.StateSet.{member}
 use Rattle.automaton.specs.Decoded.{ruleAt}
 use Rattle.automaton.proofs.WrittenBytes.{length-from}
 use Rattle.automaton.proofs.Keeping.{keep-agree, keep-in, keep-map, keep-out, keep-shorter}
+use Rattle.simulation.proofs.Ranged.{rule-in}
 use Rattle.simulation.specs.Words.{statesIn, rulesIn}
 use Rattle.simulation.specs.Inner.{RowRanged, Has}
 use Rattle.simulation.proofs.Ranges.{from-member, member-from, from-rising}
@@ -21,7 +22,7 @@ use Rattle.reduction.specs.Steps.{Stage, among}
 use Rattle.reduction.specs.Inner.{Sound, Known, marked}
 use Rattle.reduction.proofs.Members.{among-in, among-out}
 use Rattle.reduction.proofs.Members.{rising-keep, rising-same}
-use Rattle.reduction.proofs.Overwriting.{length-part}
+use Rattle.simulation.proofs.Parts.{length-part}
 
 -- Marked rows.
 
@@ -59,10 +60,6 @@ at-member : (xs : List ℕ) (i : ℕ) → i < length xs → List·Memᴰ (getD x
 at-member [] i h = absurd (omega arith)
 at-member (x ∷ xs) zero h = List·Memᴰ·head refl
 at-member (x ∷ xs) (suc i) h = List·Memᴰ·tail (at-member xs i (omega arith))
-
-pub rule-in : (ranks rows : List ℕ) (k i : ℕ) → i < k → List·Memᴰ (ruleAt ranks rows i) (rulesIn ranks rows k)
-unfolding rulesIn
-rule-in ranks rows k i h = Memᴰ·map (ruleAt ranks rows) (from-member k 0 i (omega arith) (omega arith))
 
 pub known-rules : (ranks rows : List ℕ) (k : ℕ) → 10 * k ≤ length rows → ((i : ℕ) → i < k → RowRanged ranks rows i)
     → (u : Rule) → List·Memᴰ u (rulesIn ranks rows k) → Known ranks u

@@ -31,7 +31,8 @@ use Rattle.reduction.proofs.Quotient.{below-reflexive, first-same, repr
 use Rattle.reduction.proofs.Restricting.{kept-states}
 use Rattle.reduction.proofs.Soundness.{sound-pruned, sound-shortened}
 use Rattle.reduction.proofs.Numbering.{position-low, positions-rising}
-use Rattle.reduction.proofs.Staged.{marked-rules, set-states, rule-in, known-rules, known-like, ranged-rows, ranged-stage}
+use Rattle.simulation.proofs.Ranged.{rule-in}
+use Rattle.reduction.proofs.Staged.{marked-rules, set-states, known-rules, known-like, ranged-rows, ranged-stage}
 
 all-agree : (f g : ℕ → Bool) (qs : List ℕ) → ((q : ℕ) → List·Memᴰ q qs → f q ≡ g q) → all f qs ≡ all g qs
 unfolding all

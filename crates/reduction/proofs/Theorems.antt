@@ -2,13 +2,14 @@
 -- the call writes, whose sentences are the fields of the record in specs/Demand3.antt. Each theorem is proved in the file that its body names.
 use Prim.Native.Nat.{ℕ, suc, _≤_, _<_}
 use mathlib.Core.Path.{_≡_}
-use mathlib.Core.Logic.{_↔_}
+use mathlib.Core.Logic.{_⊎_, _↔_}
 use mathlib.Core.List.{List, List·Memᴰ}
 use mathlib.Core.Bool.{true}
 use lib.ListN.{length, take, getD}
 use Rattle.automaton.specs.Automaton.{Rule, Automaton, WellFormed}
-use Rattle.automaton.specs.Read.{found}
+use Rattle.automaton.specs.Read.{found, refused}
 use Rattle.automaton.specs.Table.{judge, encode}
+use Rattle.automaton.proofs.Causes.{cause-of}
 use Rattle.simulation.specs.Tree.{Tree, Over}
 use Rattle.simulation.specs.Run.{Reaches, Accepts}
 use Rattle.simulation.specs.Simulation.{Simulates, related, relationAt}
@@ -30,6 +31,7 @@ use Rattle.reduction.proofs.Usefulness.{run-over}
 use Rattle.reduction.proofs.Agreement as agreement
 use Rattle.reduction.proofs.Counting as counting
 use Rattle.reduction.proofs.Decimal as digits
+use Rattle.reduction.proofs.Rewritten as rewritten
 use Rattle.reduction.proofs.Delivered as delivered
 
 -- Of the steps.
@@ -131,6 +133,11 @@ module _ (A : Automaton) (w : WellFormed A) where
 pub reduction-answers : (table out : List ℕ) (A : Automaton) → ((i : ℕ) → getD table i 0 < 256) → judge table ≡ found A
     → length table ≤ length out → (r : Reduction) × (reduction table out ≡ found r)
 reduction-answers = delivered.reduction-answers
+
+-- A refusal is by one of the table's causes, 1 to 7, or by 13.
+pub reduction-causes : (table out : List ℕ) (cause : ℕ) → reduction table out ≡ refused cause
+    → ((1 ≤ cause) × (cause ≤ 7)) ⊎ (cause ≡ 13)
+reduction-causes table out cause = cause-of (rewritten.reduction-causes table out)
 
 -- Demand 3, of what the call answers and of the bytes that it writes: the first two premises are its contract.
 pub demand-3 : (table out after : List ℕ) (answer : Reduced) → reductionOf answer ≡ reduction table out

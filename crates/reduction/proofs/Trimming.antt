@@ -19,7 +19,8 @@ use Rattle.simulation.proofs.Language.{each-refl, simulates-reaches}
 use Rattle.simulation.proofs.Preorder.{all-member}
 use Rattle.reduction.specs.Steps.{among, closure, buildable, productive, namesOnly, trimmed}
 use Rattle.reduction.specs.Inner.{Sound}
-use Rattle.reduction.proofs.Members.{among-in, among-out, all-in, all-out, rising-keep}
+use Rattle.simulation.proofs.Search.{all-in, all-out}
+use Rattle.reduction.proofs.Members.{among-in, among-out, rising-keep}
 use Rattle.reduction.proofs.Closure.{Monotone, closure-least, closure-states, closure-rising, closure-closed}
 
 pub member-all : {A : Type 0} {P : A → Type 0} (xs : List A) → ((x : A) → List·Memᴰ x xs → P x) → All P xs

@@ -13,8 +13,8 @@ ghost use Rattle.simulation.specs.Words.{rulesIn};
 ghost use Rattle.simulation.specs.Inner.{RowRanged, StatesBelow, Has};
 ghost use Rattle.reduction.specs.Steps.{Stage, among, closure, buildable, kept};
 ghost use Rattle.reduction.specs.Inner.{Sound, TargetsAdded, ChildrenAdded};
-use crate::rows::all_in;
 use automaton::StateSet;
+use simulation::all_in;
 use simulation::differ;
 
 // The set with the target of rule i, if all its children are in the set.

@@ -11,8 +11,8 @@ ghost use Rattle.simulation.specs.Words.{rulesIn, relationWords};
 ghost use Rattle.simulation.specs.Inner.{RowRanged, Chains};
 ghost use Rattle.reduction.specs.Steps.{sameStates, sameRule, dominated};
 ghost use Rattle.reduction.specs.Inner.{marked, isFirst};
-use crate::rows::all_in;
 use automaton::StateSet;
+use simulation::all_in;
 use simulation::chain_rules;
 use simulation::rule_matches;
 

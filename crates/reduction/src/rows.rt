@@ -13,22 +13,6 @@ ghost use Rattle.reduction.specs.Steps.{renamed};
 ghost use Rattle.reduction.specs.Inner.{nameIn, marked};
 use automaton::StateSet;
 
-// Whether the `count` states from index `at` on are all in a set.
-pub fn all_in(set: StateSet, rows: &[u16], at: usize, count: usize) -> bool
-    requires { ⌜ at + count ≤ length (now rows) ⌝ }
-    requires { ⌜ StatesBelow (now rows) at count ⌝ }
-    ensures { λ r. ⌜ r ≡ all (member (set .words)) (take count (drop at (now (rows .entry)))) ⌝ }
-{
-    let mut j: usize = 0;
-    while j < count {
-        if !set.has(rows[at + j] as usize) {
-            return false;
-        }
-        j += 1;
-    }
-    true
-}
-
 // Copies row i over row j.
 fn move_row(rows: &mut [u16], i: usize, j: usize)
     requires { ⌜ (10 * i + 10 ≤ length (now rows)) × (j ≤ i) ⌝ }

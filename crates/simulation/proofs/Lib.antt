@@ -1,4 +1,5 @@
 pub mod Search
+pub mod Parts
 pub mod Ranges
 pub mod Runs
 pub mod Language
@@ -17,6 +18,8 @@ pub mod RelationWords
 pub mod Rows
 pub mod Walks
 pub mod Settling
+pub mod Touching
 pub mod Queries
+pub mod Causes
 pub mod Theorems
 pub mod Examples

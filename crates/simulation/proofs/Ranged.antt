@@ -3,7 +3,7 @@ use Prim.Native.Nat.{ℕ, zero, suc, _+_, _*_, _<_}
 use native.Mathlib.Nat.{zero-add, add-zero}
 use native.Mathlib.Omega.{arith}
 use mathlib.Core.Path.{_≡_, _∙_}
-use mathlib.Core.List.{List}
+use mathlib.Core.List.{List, List·Memᴰ, Memᴰ·map}
 use lib.ListN.{length, take, drop, getD, length-take}
 use lib.Seq.{getD-take, getD-drop}
 use Rattle.automaton.specs.Automaton.{WellFormed, WellFormedRule}
@@ -11,7 +11,9 @@ use Rattle.automaton.specs.Decoded.{ruleAt, automatonIn}
 use Rattle.automaton.specs.declared.table.Size.{Size}
 use Rattle.automaton.proofs.Elements.{all-at}
 use Rattle.automaton.proofs.WrittenBytes.{all-from, few-states, row-fits}
+use Rattle.simulation.specs.Words.{rulesIn}
 use Rattle.simulation.specs.Inner.{RowRanged}
+use Rattle.simulation.proofs.Ranges.{from-member}
 
 module _ (size : Size) (finals ranks rows : List ℕ) (wf : WellFormed (automatonIn size finals ranks rows)) where
   module _ (i : ℕ) (h : i < size .rules) where
@@ -53,3 +55,8 @@ module _ (ranks rows : List ℕ) (i : ℕ) (ranged : RowRanged ranks rows i) whe
 
   pub target-low : getD rows (10 * i + 1) 0 < 256
   target-low = rw add-zero at (ranged .states 0 (omega arith))
+
+-- A rule that the arrays hold.
+pub rule-in : (ranks rows : List ℕ) (k i : ℕ) → i < k → List·Memᴰ (ruleAt ranks rows i) (rulesIn ranks rows k)
+unfolding rulesIn
+rule-in ranks rows k i h = Memᴰ·map (ruleAt ranks rows) (from-member k 0 i (omega arith) (omega arith))

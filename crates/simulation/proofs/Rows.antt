@@ -16,7 +16,7 @@ use Rattle.automaton.specs.Lists.{from, keep}
 use Rattle.automaton.specs.Automaton.{Rule}
 use Rattle.automaton.specs.StateSet.{member, words, emptySet, replaced, withState, withAll, setOf}
 use Rattle.automaton.proofs.Keeping.{keep-append}
-use Rattle.automaton.proofs.StateSets.{below-four, member-with, member-setOf, length-setOf, same-members}
+use Rattle.automaton.proofs.StateSets.{below-four, getD-words, member-with, member-setOf, length-setOf, same-members}
 use Rattle.simulation.specs.Simulation.{Relation, related, holds, refine, allPairs}
 use Rattle.simulation.specs.Words.{statesIn, rowWords, rowsWords}
 use Rattle.simulation.specs.Inner.{Has, relationIn}
@@ -197,6 +197,14 @@ row-words matrix q h four small =
     (λ r l. member-setOf kept r l
     ∙ elem-keep (related R q) 0 256 r (omega arith) (omega arith) ∙ related-in matrix q r h l)
 
+pub row-empty : (matrix : List (List ℕ)) (q i : ℕ) → q < 256 → i < 4 → Has (getD matrix q []) (λ (r : ℕ). false)
+    → getD (rowWords (relationIn matrix) q) i 0 ≡ 0
+unfolding rowWords setOf withAll emptySet
+row-empty matrix q i h l empty =
+    rw (keep-none (related (relationIn matrix) q) 0 256
+    (λ r a b. related-in matrix q r h (omega arith) ∙ empty r (omega arith)))
+    (getD-words (λ (j : ℕ). 0) i l)
+
 pub getD-rows : (R : Relation) (i n j : ℕ) → j < 4 * n
     → getD (rowsWords R (from i n)) j 0 ≡ getD (rowWords R (i + j / 4)) (j % 4) 0
 unfolding rowsWords rowWords from
@@ -238,7 +246,15 @@ module _ (ws vs : List ℕ) (lw : length ws ≡ 4) (lv : length vs ≡ 4) where
   words-differ bw bv i other same =
       other (ap (λ (l : List ℕ). getD l i 0) (same-members ws vs lw lv bw bv same))
 
--- One element more of a list that is filled from the front.
+-- What holds below a bound and from it on holds of all.
+pub below-from : (P : ℕ → Type 0) (n : ℕ) → ((i : ℕ) → i < n → P i) → ((i : ℕ) → n ≤ i → P i) → (i : ℕ) → P i
+below-from P n low high i = go (ltb i n) refl
+  where
+    go : (t : Bool) → ltb i n ≡ t → P i
+    go true e = low i (ltb-true i n e)
+    go false e = high i (ltb-false i n e)
+
+-- One element more of a list that is filled from the front, and one fewer of the rest.
 pub filled-more : {A : Type 0} (P : ℕ → A → Type 0) (d : A) (l : List A) (i : ℕ) (x : A) → i < length l
     → ((j : ℕ) → j < i → P j (getD l j d)) → P i x → (j : ℕ) → j < i + 1 → P j (getD (set l i x) j d)
 filled-more P d l i x h filled p j b = go (eq-or-lt-of-le {n = j} {m = i} (omega arith))
@@ -246,6 +262,10 @@ filled-more P d l i x h filled p j b = go (eq-or-lt-of-le {n = j} {m = i} (omega
     go : (j ≡ i) ⊎ (j < i) → P j (getD (set l i x) j d)
     go (inl e) = rw (e, getD-set-same l i x d h) p
     go (inr b) = rw (getD-set-other l i j x d (λ e. omega arith)) (filled j b)
+
+pub rest-fewer : {A : Type 0} (P : ℕ → A → Type 0) (d : A) (l : List A) (i : ℕ) (x : A)
+    → ((j : ℕ) → i ≤ j → P j (getD l j d)) → (j : ℕ) → i + 1 ≤ j → P j (getD (set l i x) j d)
+rest-fewer P d l i x rest j b = rw (getD-set-other l i j x d (λ e. omega arith)) (rest j (omega arith))
 
 -- One state more of those below a bound.
 ltb-more : (r q : ℕ) → (r ≡ q → ⊥) → ltb r (q + 1) ≡ ltb r q

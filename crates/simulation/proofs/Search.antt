@@ -3,6 +3,8 @@ use mathlib.Core.Path.{_≡_, refl, sym, ap, _∙_}
 use mathlib.Core.Logic.{_⊎_, inl, inr}
 use mathlib.Core.List.{List, [], _∷_, List·Memᴰ, List·Memᴰ·head, List·Memᴰ·tail}
 use mathlib.Core.Bool.{Bool, true, false, _&&_, _||_, true≢false, false≢true}
+use Prim.Native.Nat.{ℕ}
+use Rattle.automaton.specs.Lists.{all}
 use Rattle.simulation.specs.Tree.{any}
 use Rattle.simulation.specs.Simulation.{every}
 
@@ -73,3 +75,13 @@ module _ {A : Type 0} (test : A → Bool) where
   unfolding every
   every-out h x (List·Memᴰ·head {xs = xs} e) = ap test e ∙ and-true-out _ (every test xs) h .0
   every-out h x (List·Memᴰ·tail {x = y} {xs = xs} m) = every-out (and-true-out (test y) (every test xs) h .1) x m
+
+pub all-in : (test : ℕ → Bool) (xs : List ℕ) → ((q : ℕ) → List·Memᴰ q xs → test q ≡ true) → all test xs ≡ true
+unfolding all
+all-in test [] h = refl
+all-in test (x ∷ xs) h = and-true-in (h x (List·Memᴰ·head refl)) (all-in test xs (λ q m. h q (List·Memᴰ·tail m)))
+
+pub all-out : (test : ℕ → Bool) {xs : List ℕ} → all test xs ≡ true → (q : ℕ) → List·Memᴰ q xs → test q ≡ true
+unfolding all
+all-out test h q (List·Memᴰ·head {x = x} {xs = xs} e) = ap test e ∙ and-true-out (test x) (all test xs) h .0
+all-out test h q (List·Memᴰ·tail {x = x} {xs = xs} m) = all-out test (and-true-out (test x) (all test xs) h .1) q m

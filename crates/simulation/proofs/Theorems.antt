@@ -9,17 +9,19 @@ use Rattle.automaton.specs.Lists.{from}
 use Rattle.automaton.specs.Automaton.{Automaton, WellFormed}
 use Rattle.automaton.specs.Read.{found, refused, _>>=_}
 use Rattle.automaton.specs.Table.{judge}
+use Rattle.automaton.proofs.Causes.{cause-of}
 use Rattle.simulation.specs.Tree.{Tree, Over, belongs, accepts}
 use Rattle.simulation.specs.Run.{Reaches, Accepts}
 use Rattle.simulation.specs.Postfix.{judgeTree, postfix, encodeTree}
 use Rattle.simulation.specs.Check.{acceptance}
 use Rattle.simulation.specs.Simulation.{Simulates, related, relationAt}
-use Rattle.simulation.specs.Query.{simulationOf, roundsOf}
+use Rattle.simulation.specs.Query.{simulationOf, roundsOf, relationQuery, pairQuery}
 use Rattle.simulation.proofs.Runs as runs
 use Rattle.simulation.proofs.Language as language
 use Rattle.simulation.proofs.Refinement as refinement
 use Rattle.simulation.proofs.Preorder as preorder
 use Rattle.simulation.proofs.Postfix as trees
+use Rattle.simulation.proofs.Causes as causes
 
 -- A tree belongs to a state, in document 01's words, exactly if it reaches it by a run.
 pub belongs-reaches : (A : Automaton) (t : Tree) (q : ℕ) → (belongs (A .rules) t q ≡ true) ↔ Reaches (A .rules) t q
@@ -77,3 +79,17 @@ read-tree ranks b t bytes e = (trees.tree-found ranks b t e .over, trees.encode-
 pub written-tree : (ranks : List ℕ) (t : Tree) → length ranks ≤ 256 → length (postfix t) ≤ 16384 → Over ranks t
     → (judgeTree ranks (encodeTree t) ≡ found t) ⊎ (judgeTree ranks (encodeTree t) ≡ refused 11)
 written-tree = trees.judge-tree-encoded
+
+-- Refusals: of a tree by 8 to 11, of a check by these or the table's 1 to 7, of a query by the table's or by 13 and 12.
+pub tree-causes : (ranks b : List ℕ) (cause : ℕ) → judgeTree ranks b ≡ refused cause → (8 ≤ cause) × (cause ≤ 11)
+tree-causes ranks b cause = cause-of (causes.tree-causes ranks b)
+
+pub acceptance-causes : (table tree : List ℕ) (cause : ℕ) → acceptance table tree ≡ refused cause → (1 ≤ cause) × (cause ≤ 11)
+acceptance-causes table tree cause = cause-of (causes.acceptance-causes table tree)
+
+pub relation-causes : (table out : List ℕ) (cause : ℕ) → relationQuery table out ≡ refused cause
+    → ((1 ≤ cause) × (cause ≤ 7)) ⊎ (cause ≡ 13)
+relation-causes table out cause = cause-of (causes.relation-causes table out)
+
+pub pair-causes : (table : List ℕ) (q r cause : ℕ) → pairQuery table q r ≡ refused cause → ((1 ≤ cause) × (cause ≤ 7)) ⊎ (cause ≡ 12)
+pair-causes table q r cause = cause-of (causes.pair-causes table q r)

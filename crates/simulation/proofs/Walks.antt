@@ -1,21 +1,21 @@
 -- A walk along a chain: what it still has to pass, and that the rules of one key decide what all rules decide.
-use Prim.Native.Nat.{ℕ, zero, suc, _+_, _-_, _*_, _≤_, _<_}
+use Prim.Native.Nat.{ℕ, zero, suc, _+_, _-_, _*_, _/_, _%_, _^_, _≤_, _<_}
 use native.Mathlib.Nat.{add-zero, eq-zero-or-pos}
 use native.Mathlib.Omega.{arith}
 use mathlib.Core.Path.{_≡_, refl, sym, ap, ap₂, _∙_}
 use mathlib.Core.Logic.{_⊎_, inl, inr}
 use mathlib.Core.List.{List, [], _∷_, map}
 use mathlib.Core.Bool.{Bool, true, false, not, cond, _&&_, _||_}
-use mathlib.Core.Bool.{and-assoc, and-true, and-false, or-true, or-false, true≢false}
+use mathlib.Core.Bool.{and-assoc, and-true, and-false, true≢false}
 use lib.ListN.{length, take, drop, getD}
 use lib.Seq.{drop-cons}
 use lib.Dec.{eqb}
-use borrow.Author.Tests.{eq-eqb, ne-eqb, eqb-true, eqb-false}
+use borrow.Author.Tests.{eq-eqb, eqb-true}
 use Rattle.automaton.specs.Lists.{All, none, also, from, keep}
 use Rattle.automaton.specs.Automaton.{Rule}
 use Rattle.automaton.specs.Decoded.{ruleAt}
-use Rattle.automaton.specs.StateSet.{member, emptySet, withState}
-use Rattle.automaton.proofs.StateSets.{member-empty, member-with}
+use Rattle.automaton.specs.StateSet.{member, withoutState}
+use Rattle.automaton.proofs.StateSets.{member-without, same-test}
 use Rattle.automaton.proofs.Elements.{all-map}
 use Rattle.simulation.specs.Tree.{any}
 use Rattle.simulation.specs.Simulation.{Relation, related, paired, matches, every, matched, holds, refine}
@@ -187,47 +187,30 @@ pub paired-end : (R : Relation) (rank j : ℕ) (xs ys : List ℕ) → rank ≤ j
 unfolding paired
 paired-end R rank j xs ys h = let z : rank - j ≡ 0 = omega arith in rw z
 
--- One target more, where it is in the row and p holds.
-module _ (kept row : List ℕ) (t : ℕ) (p : Bool) (r : ℕ) where
-  unneeded : (eqb t r ≡ true → (member row r && p) ≡ true → member kept r ≡ true)
-      → member kept r ≡ (member kept r || (member row r && (eqb t r && p)))
-  unneeded h = go (member kept r) refl (eqb t r) refl (member row r) refl p refl
+-- One target less, where p holds.
+module _ (ws : List ℕ) (t : ℕ) (p : Bool) (r : ℕ) where
+  pub not-in : getD ws (t / 64) 0 / 2 ^ (t % 64) % 2 ≡ 0 → member ws r ≡ (not (eqb t r && p) && member ws r)
+  unfolding member
+  not-in h = go (eqb t r) refl
     where
-      go : (a : Bool) → member kept r ≡ a → (b : Bool) → eqb t r ≡ b → (c : Bool) → member row r ≡ c → (d : Bool) → p ≡ d
-          → a ≡ (a || (c && (b && d)))
-      go true k b e c f d g = refl
-      go false k false e true f d g = refl
-      go false k b e false f d g = refl
-      go false k true e true f false g = refl
-      go false k true e true f true g = absurd (true≢false (sym (h e (rw (f, g))) ∙ k))
+      go : (e : Bool) → eqb t r ≡ e → member ws r ≡ (not (e && p) && member ws r)
+      go true e = rw (← eqb-true t r e, h, and-false)
+      go false e = refl
 
-  pub not-in-row : member row t ≡ false → member kept r ≡ (member kept r || (member row r && (eqb t r && p)))
-  not-in-row h =
-      unneeded (λ e k. absurd (true≢false (sym (and-true-out (member row r) p k .0)
-      ∙ ap (member row) (sym (eqb-true t r e)) ∙ h)))
+  pub not-paired : p ≡ false → member ws r ≡ (not (eqb t r && p) && member ws r)
+  not-paired h = rw (h, and-false)
 
-  pub kept-already : member kept t ≡ true → member kept r ≡ (member kept r || (member row r && (eqb t r && p)))
-  kept-already h = unneeded (λ e k. ap (member kept) (sym (eqb-true t r e)) ∙ h)
+  pub taken-out : r < 256 → p ≡ true → member (withoutState ws t) r ≡ (not (eqb t r && p) && member ws r)
+  taken-out b h = member-without ws t r b ∙ rw (h, and-true, same-test r t t r sym sym)
 
-  pub not-paired : p ≡ false → member kept r ≡ (member kept r || (member row r && (eqb t r && p)))
-  not-paired h = unneeded (λ e k. absurd (true≢false (sym (and-true-out (member row r) p k .1) ∙ h)))
+neither : (a b c : Bool) → (not (a || b) && c) ≡ (not b && (not a && c))
+neither true b c = sym (and-false (not b))
+neither false b c = refl
 
-  pub newly-kept : t < 256 → r < 256 → member row t ≡ true → p ≡ true
-      → member (withState kept t) r ≡ (member kept r || (member row r && (eqb t r && p)))
-  newly-kept a b h k = member-with kept t r b ∙ go (eqb t r) refl (member kept r)
-    where
-      go : (e : Bool) → eqb t r ≡ e → (m : Bool) → (eqb r t || m) ≡ (m || (member row r && (e && p)))
-      go true e m =
-          let same = eqb-true t r e in
-          rw (eq-eqb r t (sym same), k, ← same, h) (sym (or-true m))
-      go false e m =
-          rw (ne-eqb r t (λ s. eqb-false t r e (sym s)))
-          (sym (ap (λ (x : Bool). m || x) (and-false (member row r)) ∙ or-false m))
-
-or-regroup : (a b c d : Bool) → (a || (b && (c || d))) ≡ ((a || (b && c)) || (b && d))
-or-regroup true b c d = refl
-or-regroup false true c d = refl
-or-regroup false false c d = refl
+all-but-unmatched : (a b : Bool) → (not (not b && a) && a) ≡ (a && b)
+all-but-unmatched true true = refl
+all-but-unmatched true false = refl
+all-but-unmatched false b = and-false (not (not b && false))
 
 -- The rules that match rule u, along the chain of its symbol.
 module _ (ranks rows : List ℕ) (k : ℕ) (R : Relation) where
@@ -255,42 +238,44 @@ module _ (ranks rows : List ℕ) (k : ℕ) (R : Relation) where
       let s : getD rows (10 * v) 0 ≡ getD rows (10 * u) 0 = rw add-zero at e in
       rw (s, eq-eqb (getD rows (10 * u) 0) (getD rows (10 * u) 0) refl)
 
-  -- What is kept of a row by the rules that were passed, and what the others keep.
-  abbrev pub Kept : ℕ → List ℕ → List ℕ → List ℕ → ℕ → Type 0
-  Kept u row next kept l =
+  -- What the rules that were passed leave unmatched of a row, and what the others leave of it.
+  abbrev pub Struck : ℕ → List ℕ → List ℕ → List ℕ → ℕ → Type 0
+  Struck u row next unmatched l =
       (w : Walk next (Keyed rows k 0 (getD rows (10 * u) 0)) l)
-      × ((r : ℕ) → r < 256 → (member row r && matched (rulesIn ranks rows k) R r (ruleAt ranks rows u))
-      ≡ (member kept r || (member row r && any (answers u r) (w .rest))))
+      × ((r : ℕ) → r < 256 → (not (matched (rulesIn ranks rows k) R r (ruleAt ranks rows u)) && member row r)
+      ≡ (not (any (answers u r) (w .rest)) && member unmatched r))
 
-  pub kept-none : (u : ℕ) (row head next : List ℕ) → k ≤ 1024 → getD rows (10 * u) 0 < 256 → Chains rows 0 k head next
-      → Kept u row next emptySet (getD head (getD rows (10 * u) 0) 0)
+  pub struck-none : (u : ℕ) (row head next : List ℕ) → k ≤ 1024 → getD rows (10 * u) 0 < 256 → Chains rows 0 k head next
+      → Struck u row next row (getD head (getD rows (10 * u) 0) 0)
   unfolding walk-from
-  kept-none u row head next few low chains = (
+  struck-none u row head next few low chains = (
     walk-from rows head next 0 k (getD rows (10 * u) 0) few low chains,
-    λ r h. rw (member-empty r h) (ap (λ (t : Bool). member row r && t) (matched-keyed u r)),
+    λ r h. ap (λ (t : Bool). not t && member row r) (matched-keyed u r),
   )
 
-  pub kept-next : (u : ℕ) (row next kept kept′ : List ℕ) (l : ℕ) → 0 < l → Kept u row next kept l
-      → Has kept′ (λ (r : ℕ). member kept r || (member row r && (eqb (getD rows (10 * (l - 1) + 1) 0) r
+  pub struck-next : (u : ℕ) (row next ws ws′ : List ℕ) (l : ℕ) → 0 < l → Struck u row next ws l
+      → Has ws′ (λ (r : ℕ). not (eqb (getD rows (10 * (l - 1) + 1) 0) r
       && paired R (childrenAt rows (getD ranks (getD rows (10 * u) 0) 0) u)
-      (childrenAt rows (getD ranks (getD rows (10 * u) 0) 0) (l - 1)))))
-      → Kept u row next kept′ (getD next (l - 1) 0)
+      (childrenAt rows (getD ranks (getD rows (10 * u) 0) 0) (l - 1))) && member ws r)
+      → Struck u row next ws′ (getD next (l - 1) 0)
   unfolding any
-  kept-next u row next kept kept′ l h (w, is) has =
+  struck-next u row next ws ws′ l h (w, is) has =
       let t = turn next (Keyed rows k 0 (getD rows (10 * u) 0)) l w h in (
         t .walk,
         λ r b.
-            is r b ∙ ap (λ (vs : List ℕ). member kept r || (member row r && any (answers u r) vs)) (t .list)
-            ∙ or-regroup (member kept r) (member row r) (answers u r (l - 1)) (any (answers u r) (t .walk .rest))
-            ∙ ap (λ (x : Bool). x || (member row r && any (answers u r) (t .walk .rest)))
-            (ap (λ (x : Bool). member kept r || (member row r && x)) (answers-alike u (l - 1) r (t .first .1)) ∙ sym (has r b)),
+            is r b ∙ ap (λ (vs : List ℕ). not (any (answers u r) vs) && member ws r) (t .list)
+            ∙ neither (answers u r (l - 1)) (any (answers u r) (t .walk .rest)) (member ws r)
+            ∙ ap (λ (x : Bool). not (any (answers u r) (t .walk .rest)) && x)
+            (ap (λ (x : Bool). not x && member ws r) (answers-alike u (l - 1) r (t .first .1)) ∙ sym (has r b)),
       )
 
-  pub kept-all : (u : ℕ) (row next kept : List ℕ) (l : ℕ) → l ≡ 0 → Kept u row next kept l
+  pub struck-all : (u : ℕ) (row next ws kept : List ℕ) (l : ℕ) → l ≡ 0 → Struck u row next ws l
+      → Has kept (λ (r : ℕ). not (member ws r) && member row r)
       → Has kept (λ (r : ℕ). member row r && matched (rulesIn ranks rows k) R r (ruleAt ranks rows u))
   unfolding any
-  kept-all u row next kept l h (w, is) r b =
-      sym (is r b ∙ rw (walk-end next (Keyed rows k 0 (getD rows (10 * u) 0)) l w h, and-false, or-false))
+  struck-all u row next ws kept l h (w, is) has r b =
+      let left = rw (walk-end next (Keyed rows k 0 (getD rows (10 * u) 0)) l w h) at (is r b) in
+      has r b ∙ rw (← left) (all-but-unmatched (member row r) _)
 
   -- What is left of a row by the rules of target q that were passed, and what the others leave.
   abbrev pub Narrowed : ℕ → List ℕ → List ℕ → ℕ → Type 0

@@ -2,12 +2,12 @@
 -- needs none of it.
 use Prim.Native.Nat.{ℕ, zero, suc, _+_, _*_, _/_, _%_, _^_, _≤_, _<_}
 use mathlib.Core.Path.{_≡_}
-use mathlib.Core.List.{List, [], _∷_, map}
-use mathlib.Core.Bool.{Bool, true, not, cond, _&&_, _||_}
+use mathlib.Core.List.{List, [], _∷_, map, List·Memᴰ}
+use mathlib.Core.Bool.{Bool, true, false, not, cond, _&&_, _||_}
 use lib.ListN.{length, take, drop, getD}
 use lib.Dec.{eqb}
 use lib.Count.{ones}
-use Rattle.automaton.specs.Lists.{from, keep}
+use Rattle.automaton.specs.Lists.{all, from, keep}
 use Rattle.automaton.specs.Refusal.{numberOf}
 use Rattle.automaton.specs.Automaton.{Rule, Automaton}
 use Rattle.automaton.specs.Read.{Read, found, refused, _>>=_, mapRead}
@@ -15,7 +15,7 @@ use Rattle.automaton.specs.StateSet.{member}
 use Rattle.automaton.specs.Decoded.{ruleAt}
 use Rattle.simulation.specs.Tree.{Tree, any, belongs, accepts}
 use Rattle.simulation.specs.Postfix.{pushAll, single, judgeTree}
-use Rattle.simulation.specs.Simulation.{Relation, refine, allPairs, matched}
+use Rattle.simulation.specs.Simulation.{Relation, related, refine, allPairs, matched}
 use Rattle.simulation.specs.declared.evaluation.Height.{Height}
 use Rattle.simulation.specs.declared.evaluation.Height.the-variants as height
 
@@ -107,6 +107,25 @@ relationIn matrix = keep (λ (p : ℕ × ℕ). member (getD matrix (p .0) []) (p
 -- Whether a round loses a pair.
 unfoldable pub loses : List Rule → Relation → Bool
 loses rules R = not (eqb (length (refine rules R)) (length R))
+
+-- Whether a round looks at a rule: it is the first one, or some child of the rule is not among the states whose rows stayed the same.
+unfoldable pub isTouched : Bool → List ℕ → Rule → Bool
+isTouched first same u = first || not (all (member same) (u .children))
+
+-- A rule that is not touched has a match for each state that its target is related to.
+unfoldable pub Quiet : List Rule → Relation → (Rule → Bool) → Type 0
+Quiet rules R touched =
+    (u : Rule) → List·Memᴰ u rules → touched u ≡ false → (r : ℕ) → related R (u .target) r ≡ true → matched rules R r u ≡ true
+
+-- The rows from n on relate nothing.
+unfoldable pub EmptyFrom : ℕ → List (List ℕ) → Type 0
+EmptyFrom n matrix = (q : ℕ) → n ≤ q → q < 256 → Has (getD matrix q []) (λ (r : ℕ). false)
+
+-- What a round leaves: the next relation's rows of the states below n, and a set of such states whose rows are the last one's.
+pub record Rounded (n : ℕ) (rules : List Rule) (last next : List (List ℕ)) (same : List ℕ) : Type 0 where
+  pub rows : (q : ℕ) → q < n → Has (getD next q []) (related (refine rules (relationIn last)) q)
+  pub four : length same ≡ 4
+  pub kept : (q : ℕ) → q < 256 → member same q ≡ true → (q < n) × (getD next q [] ≡ getD last q [])
 
 -- Up to eight numbers of a row, from its third on: the children of rule i.
 unfoldable pub childrenAt : List ℕ → ℕ → ℕ → List ℕ

@@ -4,6 +4,7 @@ mod evaluation;
 mod index;
 mod query;
 mod rounds;
+mod states;
 
 pub use checking::Answer;
 pub use checking::Checked;
@@ -19,3 +20,4 @@ pub use query::rule_matches;
 pub use rounds::Relation;
 pub use rounds::differ;
 pub use rounds::simulate;
+pub use states::all_in;

@@ -11,7 +11,7 @@ use lib.Dec.{eqb}
 use Rattle.simulation.proofs.Search.{and-false-left}
 use Rattle.simulation.proofs.Queries.{and-left}
 use Rattle.reduction.specs.Steps.{sameStates}
-use Rattle.reduction.proofs.Overwriting.{part-step, part-end}
+use Rattle.simulation.proofs.Parts.{part-step, part-end}
 use Rattle.reduction.proofs.marking.same_states.Statement.{statement}
 use Rattle.reduction.proofs.marking.same_states.Tie as tie
 

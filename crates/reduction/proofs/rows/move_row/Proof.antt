@@ -7,7 +7,8 @@ use lib.Seq.{take-all}
 use borrow.Author.Needs.{needs}
 use Rattle.automaton.specs.Inner.{over}
 use Rattle.automaton.proofs.WrittenBytes.{over-nil}
-use Rattle.reduction.proofs.Overwriting.{rowAt, length-part, next-moved}
+use Rattle.simulation.proofs.Parts.{length-part}
+use Rattle.reduction.proofs.Overwriting.{rowAt, next-moved}
 use Rattle.reduction.proofs.rows.move_row.Statement.{statement}
 use Rattle.reduction.proofs.rows.move_row.Tie as tie
 

@@ -5,6 +5,7 @@ use native.Mathlib.Nat.{add-zero}
 use mathlib.Core.Path.{_≡_}
 use lib.ListN.{length}
 use Rattle.simulation.proofs.Ranged.{target-low}
+use Rattle.simulation.proofs.Touching.{zero-words}
 use Rattle.simulation.proofs.rounds.simulate.Statement.{statement}
 use Rattle.simulation.proofs.rounds.simulate.Tie as tie
 
@@ -28,12 +29,15 @@ settle-requires c κs =
     let first = second .before .before .before .before .before .before in
     let s = first .before .before .before .before in (
       s .pre .0 .0,
-      record {
-        count = s .pre .0 .1;
-        ranged = s .pre .1;
-        symbols = first .chain-rules .ensures;
-        targets = second .chain-rules2 .ensures;
-      },
+      (
+        record {
+          count = s .pre .0 .1;
+          ranged = s .pre .1;
+          symbols = first .chain-rules .ensures;
+          targets = second .chain-rules2 .ensures;
+        },
+        λ i. zero-words i,
+      ),
     )
 
 returns : tie.Need-returns

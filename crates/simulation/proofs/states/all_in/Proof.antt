@@ -8,10 +8,10 @@ use borrow.Author.Needs.{needs}
 use Rattle.automaton.specs.Lists.{all}
 use Rattle.automaton.specs.StateSet.{member}
 use Rattle.automaton.proofs.Scanning.{bytes-end}
 use Rattle.simulation.specs.Inner.{StatesBelow}
-use Rattle.reduction.proofs.Overwriting.{length-part, part-step}
-use Rattle.reduction.proofs.rows.all_in.Statement.{statement}
-use Rattle.reduction.proofs.rows.all_in.Tie as tie
+use Rattle.simulation.proofs.Parts.{length-part, part-step}
+use Rattle.simulation.proofs.states.all_in.Statement.{statement}
+use Rattle.simulation.proofs.states.all_in.Tie as tie
 
 abbrev Inv-loop : tie.InvT-loop
 Inv-loop set rows at count j₀ j =
