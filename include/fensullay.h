@@ -1,22 +1,40 @@
 /*
- * Fensullay: reads, checks and shortens nondeterministic tree automata that are kept as bytes ("tables").
+ * Fensullay: reads, checks and shortens nondeterministic bottom-up tree automata that are kept as bytes ("tables").
  *
- * Link with libfensullay.a (x86-64 Linux). No function allocates, keeps anything between calls, starts a thread, takes a lock or looks at
- * the locale or the environment; different threads may call at the same time on memory that they do not share. Every call ends.
+ * Link with libfensullay.a, on x86-64 Linux. It asks of the C library memcpy and memset, and nothing else. No function allocates, keeps
+ * anything between calls, starts a thread, takes a lock or looks at the locale or the environment. Every call ends. Threads may call at the same
+ * time, as long as none writes what another is given.
  *
- * Every input is answered: any bytes as a table or a tree, any state number, any length. What the caller owes is C's own: a pointer and its
- * length name memory that may be read (and written, where the pointer is not const), a pointer is not NULL even where its length is 0, and what
- * a call writes overlaps nothing else that the call is given.
+ * A TABLE is a row of records. A record is a length (4 bytes), a kind (2 bytes) and a body; the length counts kind and body; all numbers are
+ * unsigned and little-endian. In this order:
+ *   kind 1   states n, symbols m, rules k, two bytes each; at most 256, 256 and 1,024
+ *   kind 2   m bytes: the rank of each symbol, 0 to 8
+ *   kind 3   the final states, two bytes each, strictly increasing
+ *   kind 4   k times a rule: symbol, target state, as many child states as the symbol's rank; two bytes each
+ * States, symbols and rules are numbered from 0. A TREE is one record of kind 16, with nothing behind it; its body is the symbols of the tree's
+ * nodes in postfix order, two bytes each.
  *
- * Every function answers one number:
+ * A tree belongs to a state if some rule with that target has the tree's top symbol and the tree's children belong to the rule's child states, in
+ * order. A table accepts a tree that belongs to a final state. State q is simulated by state r (q <= r) in the largest relation in which each
+ * rule of q is matched by one rule of r: the same symbol, and each child <= the child in its place. Final states play no part in it.
  *
- *   FENSULLAY_OK (0)      done; or yes
+ * WHAT A CALLER OWES. Any bytes will do as a table or a tree, any state number, any length; all are answered. But
+ *   - a pointer and its length name memory that may be read, and written where the pointer is not const;
+ *   - a pointer is never NULL, not even where its length is 0;
+ *   - what a call may write overlaps nothing else that the call is given: `out` may not be the table itself;
+ *   - tables, trees and counts hold values. `out` and `numbers` are only written, and need hold nothing beforehand.
+ *
+ * WHAT IT GETS. Every function answers one number:
+ *   FENSULLAY_OK (0)      done; or yes, accepted
  *   1 to 13               refused: the number of the cause, below
  *   FENSULLAY_SHORT (100) the array for numbers or counts has fewer elements than the call needs; found before everything else
- *   FENSULLAY_NO (101)    not accepted; or not simulated
+ *   FENSULLAY_NO (101)    no: not accepted, or not simulated
+ * Refusals and SHORT leave `out` and `numbers` as they were, byte for byte. Behind a result, `out`, `numbers` and `counts` keep what they held. Tables
+ * and trees are never written.
  *
- * A refusal (1 to 13) and FENSULLAY_SHORT leave every lent byte and number as it was, except that a check counts a refusal. Behind a result the
- * bytes of the output and the elements of the array stay as they were. Tables and trees are never written.
+ * In each record of a table the causes come in the order 1, 2, 7 (a rule too many), 3 (length), 4, 5, 6; but a rule's symbol (5) comes before the
+ * comparison with its rank (3), and its states (5) behind. Too few rules (7) is found at the end. Of a tree: 8, then the node limit (11), then node
+ * by node 9, 10, 11, at the end 10.
  */
 #ifndef FENSULLAY_H
 #define FENSULLAY_H
@@ -28,35 +46,38 @@
 extern "C" {
 #endif
 
+/* The library was compiled for a size_t of eight bytes. */
+typedef char fensullay_size_t_has_eight_bytes[sizeof(size_t) == 8 ? 1 : -1];
+
 enum {
     FENSULLAY_OK = 0,
-    FENSULLAY_BROKEN = 1,  /* table: what is left holds no whole record, or a record's length is below 2 */
+    FENSULLAY_BROKEN = 1,  /* table: what is left is not empty and holds no whole record, or a record's length is below 2 */
     FENSULLAY_KIND = 2,    /* table: a record of another kind than the one that is due, or the table ends before its third record */
     FENSULLAY_LENGTH = 3,  /* table: a body's length differs from the layout */
     FENSULLAY_LIMIT = 4,   /* table: more than 256 states, 256 symbols or 1,024 rules, or a rank above 8 */
-    FENSULLAY_RANGE = 5,   /* table: a symbol or a state not below their number */
+    FENSULLAY_RANGE = 5,   /* table: a symbol not below the number of symbols, or a state not below the number of states */
     FENSULLAY_ORDER = 6,   /* table: final states that do not strictly increase */
     FENSULLAY_COUNT = 7,   /* table: a rule too many, or too few */
     FENSULLAY_TREE = 8,    /* tree: not one whole record of kind 16 with an even body and nothing behind it */
     FENSULLAY_SYMBOL = 9,  /* tree: a node's symbol is not below the table's number of symbols */
-    FENSULLAY_SHAPE = 10,  /* tree: a node has too few trees before it, or the body does not end with one tree */
-    FENSULLAY_BOUND = 11,  /* tree: more than 16,384 nodes, or more than 1,024 trees waiting after a node */
-    FENSULLAY_STATE = 12,  /* a state number not below the table's number of states */
+    FENSULLAY_SHAPE = 10,  /* tree: a node has fewer finished trees before it than its rank, or the body does not end with one tree */
+    FENSULLAY_BOUND = 11,  /* tree: more than 16,384 nodes, or more than 1,024 finished trees waiting after a node */
+    FENSULLAY_STATE = 12,  /* a state number that is not below the table's number of states */
     FENSULLAY_ROOM = 13,   /* the output is shorter than the result */
     FENSULLAY_SHORT = 100,
     FENSULLAY_NO = 101
 };
 
-/* A table has at most this many bytes, and a reduced table never more than the table that it comes from. */
+/* A table that is not refused has at most this many bytes, and a reduced table never more than the table that it comes from. */
 enum { FENSULLAY_TABLE_MAX = 27416 };
 
-/* The relation has this many bytes to a state of the table. */
-enum { FENSULLAY_RELATION_ROW = 32 };
+/* The relation has this many bytes to a state, and at most this many in all. */
+enum { FENSULLAY_RELATION_ROW = 32, FENSULLAY_RELATION_MAX = 8192 };
 
 /* A report has at most this many bytes. */
 enum { FENSULLAY_REPORT_MAX = 64 };
 
-/* What stands where in the array for numbers, and how many elements the call needs. */
+/* What stands where in the array for numbers or counts; the last name of each list is how many elements the call needs. */
 enum { FENSULLAY_JUDGE_STATES, FENSULLAY_JUDGE_SYMBOLS, FENSULLAY_JUDGE_RULES, FENSULLAY_JUDGE_NUMBERS };
 enum { FENSULLAY_CHECK_ACCEPTED, FENSULLAY_CHECK_REJECTED, FENSULLAY_CHECK_REFUSED, FENSULLAY_CHECK_COUNTS };
 enum { FENSULLAY_RELATE_ROUNDS, FENSULLAY_RELATE_PAIRS, FENSULLAY_RELATE_NUMBERS };
@@ -73,45 +94,74 @@ enum {
 enum { FENSULLAY_REPORT_LENGTH, FENSULLAY_REPORT_NUMBERS };
 
 /*
- * Judges a table. OK: its states, symbols and rules stand in `numbers`. Refusals: 1 to 7, the first cause in the table's order. SHORT: fewer
- * than 3 numbers. Stack: STACK_JUDGE.
+ * Judges a table.
+ *   OK         its states, symbols and rules stand in `numbers`
+ *   1 to 7     the first cause, in the order above; `numbers` stays
+ *   SHORT      fewer than 3 numbers; they stay
+ * Stack: less than 1 KiB. No heap, no threads, no locale.
  */
 uint32_t fensullay_judge(const uint8_t *table, size_t table_length, size_t *numbers, size_t numbers_length);
 
 /*
- * Checks a tree against a table. OK: accepted. NO: not accepted. Refusals: 1 to 7 for the table, which is judged first, then 8 to 11 for the tree.
- * SHORT: fewer than 3 counts. `counts` holds how many checks were accepted, not accepted and refused, zeros at the start; the call adds one to the
- * count of its answer, and a count at 4,294,967,295 stays. Only SHORT leaves the counts. Stack: STACK_CHECK.
+ * Checks a tree against a table. `counts` holds how many checks were accepted, not accepted and refused, zeros at the start; the call adds one to
+ * the count of its answer, also where it refuses. A count at 4,294,967,295 stays there.
+ *   OK         accepted
+ *   NO         not accepted
+ *   1 to 7     the table is refused; it is judged before the tree
+ *   8 to 11    the tree is refused
+ *   SHORT      fewer than 3 counts; they stay, and nothing is counted
+ * Stack: 56 KiB. No heap, no threads, no locale.
  */
 uint32_t fensullay_check(
     uint32_t *counts, size_t counts_length, const uint8_t *table, size_t table_length, const uint8_t *tree, size_t tree_length);
 
 /*
- * Which states of a table are simulated by which (q <= r), final states playing no part. OK: `out` begins with 32 bytes for each state q, in
- * which bit r % 8 (bit 0 has the value 1) of byte r / 8 is 1 if q <= r and the others are 0; the rounds and the number of pairs stand in
- * `numbers`. Refusals: 1 to 7, then 13 where `out` has fewer than 32 bytes to a state. SHORT: fewer than 2 numbers. Stack: STACK_RELATE.
+ * Which states of a table are simulated by which.
+ *   OK         `out` begins with 32 bytes for each state q, in which bit r % 8 (bit 0 has the value 1) of byte r / 8 is 1 if q <= r, and the
+ *              others are 0; the rounds after which the relation stays and the number of its pairs stand in `numbers`
+ *   1 to 7     the table is refused; `out` and `numbers` stay
+ *   13         `out` has fewer than 32 bytes to a state of the table; it stays, and `numbers` too
+ *   SHORT      fewer than 2 numbers; they stay, and `out` too
+ * Stack: 67 KiB. No heap, no threads, no locale.
  */
 uint32_t fensullay_relate(
     const uint8_t *table, size_t table_length, uint8_t *out, size_t out_length, size_t *numbers, size_t numbers_length);
 
 /*
- * Whether state q is simulated by state r (q <= r). OK: yes, and `numbers` stays. NO: no, and the number of a rule of q that no rule of r matches
- * stands in `numbers`; which such rule is not promised. Refusals: 1 to 7, then 12. SHORT: no number. Stack: STACK_COMPARE.
+ * Whether state q is simulated by state r.
+ *   OK         yes; `numbers` stays
+ *   NO         no, and the number of a rule of q that no rule of r matches stands in `numbers`; which such rule is not promised
+ *   1 to 7     the table is refused; `numbers` stays
+ *   12         q or r is not below the table's number of states; `numbers` stays
+ *   SHORT      numbers_length is 0
+ * Stack: 67 KiB. No heap, no threads, no locale.
  */
 uint32_t fensullay_compare(const uint8_t *table, size_t table_length, size_t q, size_t r, size_t *numbers, size_t numbers_length);
 
 /*
- * Reduces a table. OK: `out` begins with the reduced table, which accepts the same trees as the table; its length, the states of the table and of
- * the reduced one, the rules of both and the rounds stand in `numbers`. Refusals: 1 to 7, then 13 where `out` is shorter than the reduced table; an
- * `out` as long as the table is never too short. SHORT: fewer than 6 numbers. Stack: STACK_REDUCE.
+ * Reduces a table: the reduced one accepts the same trees, and a check of any bytes answers and counts alike on both.
+ *   OK         `out` begins with the reduced table; its length, the states of the table and of the reduced one, the rules of both, and the rounds
+ *              stand in `numbers`. The rounds are those of the simulation on what is left without the states to which no tree belongs: fensullay_relate
+ *              may give another number for the same table
+ *   1 to 7     the table is refused; `out` and `numbers` stay
+ *   13         `out` is shorter than the reduced table; it stays, and `numbers` too. An `out` as long as the table is never too short
+ *   SHORT      fewer than 6 numbers; they stay, and `out` too
+ * Stack: 63 KiB. No heap, no threads, no locale.
  */
 uint32_t fensullay_reduce(
     const uint8_t *table, size_t table_length, uint8_t *out, size_t out_length, size_t *numbers, size_t numbers_length);
 
 /*
- * The report on a table, as lines of text: `refused` and the number of the cause, or what reducing does to it. It looks at the first 27,417 bytes
- * of the input. OK: `out` begins with the lines, without a 0 behind them, and their length stands in `numbers`. Refusal: 13 where `out` is
- * shorter than the lines. SHORT: no number. Stack: STACK_REPORT.
+ * The report on a table, as lines of text, each ended by byte 10: `refused` and the number of the cause; or the four lines
+ *     reduced
+ *     states OLD NEW
+ *     rules OLD NEW
+ *     rounds NUMBER
+ * It looks at the first 27,417 bytes of the input, so that on a longer input the number may differ from fensullay_judge's.
+ *   OK         `out` begins with the lines, also with those of a refused table, without a 0 behind them; their length stands in `numbers`
+ *   13         `out` is shorter than the lines; it stays, and `numbers` too
+ *   SHORT      numbers_length is 0; `out` stays
+ * Stack: 63 KiB. No heap, no threads, no locale.
  */
 uint32_t fensullay_report(
     const uint8_t *input, size_t input_length, uint8_t *out, size_t out_length, size_t *numbers, size_t numbers_length);

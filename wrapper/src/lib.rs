@@ -36,11 +36,14 @@ pub mod sys;
 
 pub use refusal::Refusal;
 
-/// A table has at most this many bytes.
+/// A table that is not refused has at most this many bytes.
 pub const TABLE_MAX: usize = 27_416;
 
 /// The relation has this many bytes to a state.
 pub const RELATION_ROW: usize = 32;
+
+/// The relation has at most this many bytes.
+pub const RELATION_MAX: usize = 8_192;
 
 /// A report has at most this many bytes.
 pub const REPORT_MAX: usize = 64;
@@ -56,7 +59,7 @@ pub struct Size {
     pub rules: usize,
 }
 
-/// Judges a table: its numbers, or the first cause in the table's order.
+/// Judges a table: its numbers, or the first cause of refusal.
 pub fn judge(table: &[u8]) -> Result<Size, Refusal> {
     let mut numbers = [0; 3];
     // SAFETY: each pointer and its length are those of a slice, and the slices are apart.
@@ -143,20 +146,7 @@ pub struct Relation {
 /// r % 8 of byte r / 8 is 1 if q is simulated by r, and the others are 0. The bytes behind them
 /// stay; after a refusal all stay.
 pub fn relate(table: &[u8], out: &mut [u8]) -> Result<Relation, Refusal> {
-    let mut numbers = [0; 2];
-    // SAFETY: each pointer and its length are those of a slice, and the slices are apart.
-    let code = unsafe {
-        sys::fensullay_relate(
-            table.as_ptr(),
-            table.len(),
-            out.as_mut_ptr(),
-            out.len(),
-            numbers.as_mut_ptr(),
-            numbers.len(),
-        )
-    };
-    done(code)?;
-    let [rounds, pairs] = numbers;
+    let [rounds, pairs] = writing(sys::fensullay_relate, table, out)?;
     Ok(Relation { rounds, pairs })
 }
 
@@ -204,27 +194,15 @@ pub struct Reduction {
     pub old_rules: usize,
     /// How many rules the reduced table has.
     pub new_rules: usize,
-    /// How many rounds the simulation took.
+    /// How many rounds the simulation took on what is left without the states that no tree belongs to.
     pub rounds: usize,
 }
 
 /// Writes the reduced table, which accepts the same trees. The bytes behind it stay; after a
 /// refusal all stay. An `out` as long as the table is never too short.
 pub fn reduce(table: &[u8], out: &mut [u8]) -> Result<Reduction, Refusal> {
-    let mut numbers = [0; 6];
-    // SAFETY: each pointer and its length are those of a slice, and the slices are apart.
-    let code = unsafe {
-        sys::fensullay_reduce(
-            table.as_ptr(),
-            table.len(),
-            out.as_mut_ptr(),
-            out.len(),
-            numbers.as_mut_ptr(),
-            numbers.len(),
-        )
-    };
-    done(code)?;
-    let [length, old_states, new_states, old_rules, new_rules, rounds] = numbers;
+    let [length, old_states, new_states, old_rules, new_rules, rounds] =
+        writing(sys::fensullay_reduce, table, out)?;
     Ok(Reduction { length, old_states, new_states, old_rules, new_rules, rounds })
 }
 
@@ -239,20 +217,8 @@ pub fn reduced(table: &[u8]) -> Result<(Vec<u8>, Reduction), Refusal> {
 /// Writes the lines of the report on a table and answers their length; a refused table has its
 /// line too. The bytes behind them stay. The only refusal is `Room`, and then all stay.
 pub fn report(input: &[u8], out: &mut [u8]) -> Result<usize, Refusal> {
-    let mut numbers = [0];
-    // SAFETY: each pointer and its length are those of a slice, and the slices are apart.
-    let code = unsafe {
-        sys::fensullay_report(
-            input.as_ptr(),
-            input.len(),
-            out.as_mut_ptr(),
-            out.len(),
-            numbers.as_mut_ptr(),
-            numbers.len(),
-        )
-    };
-    done(code)?;
-    Ok(numbers[0])
+    let [length] = writing(sys::fensullay_report, input, out)?;
+    Ok(length)
 }
 
 /// The lines of the report on a table.
@@ -262,6 +228,23 @@ pub fn report_lines(input: &[u8]) -> String {
         Ok(length) => out[..length].iter().map(|&byte| char::from(byte)).collect(),
         Err(refusal) => unreachable!("{refusal}, with room for every report"),
     }
+}
+
+/// A call that reads one slice, writes another and gives some numbers.
+type Writing = unsafe extern "C" fn(*const u8, usize, *mut u8, usize, *mut usize, usize) -> u32;
+
+fn writing<const N: usize>(
+    call: Writing,
+    input: &[u8],
+    out: &mut [u8],
+) -> Result<[usize; N], Refusal> {
+    let mut numbers = [0; N];
+    // SAFETY: each pointer and its length are those of a slice, and the slices are apart.
+    let code = unsafe {
+        call(input.as_ptr(), input.len(), out.as_mut_ptr(), out.len(), numbers.as_mut_ptr(), N)
+    };
+    done(code)?;
+    Ok(numbers)
 }
 
 fn done(code: u32) -> Result<(), Refusal> {

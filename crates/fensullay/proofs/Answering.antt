@@ -1,7 +1,7 @@
 -- The three ways in which an exported function ends: too few elements, a refusal, or its numbers written.
 use Prim.Native.Nat.{ℕ, _+_, _≤_, _<_}
 use native.Mathlib.Omega.{arith}
-use mathlib.Core.Path.{_≡_, refl, sym, ap, subst, _∙_}
+use mathlib.Core.Path.{_≡_, refl, ap, subst, _∙_}
 use mathlib.Core.List.{List, _++_}
 use lib.ListN.{length, take, drop, getD, set}
 use borrow.Author.Tests.{le-leb, lt-leb}

@@ -1,16 +1,15 @@
 -- What the exported pair query answers, from what the pair query promises.
 use Prim.Native.Nat.{ℕ, _≤_}
 use native.Mathlib.Omega.{arith}
-use mathlib.Core.Bool.{true, false}
 use mathlib.Core.Path.{_≡_, refl, sym, ap, _∙_}
 use mathlib.Core.List.{List, _∷_}
 use lib.ListN.{length, drop}
 use Rattle.automaton.specs.Automaton.{Automaton}
 use Rattle.automaton.specs.Refusal.{numberOf}
-use Rattle.automaton.specs.Read.{Read, found, refused, mapRead, _>>=_, _>>_, check}
+use Rattle.automaton.specs.Read.{Read, found, refused, mapRead, _>>=_}
 use Rattle.automaton.specs.Table.{judge}
 use Rattle.automaton.specs.declared.refusal.Refusal.{Refusal}
-use Rattle.simulation.specs.Query.{pairQuery, comparisonOf, isYes, Compares, Comparison}
+use Rattle.simulation.specs.Query.{pairQuery, comparisonOf, isYes, Compares}
 use Rattle.simulation.specs.declared.query.Compared.{Compared}
 use Rattle.simulation.specs.declared.query.Compared.the-variants as compared
 use Rattle.reduction.proofs.Reporting.{refusal-few}

@@ -2,12 +2,11 @@
 use Prim.Native.Nat.{ℕ, _≤_, _<_}
 use native.Mathlib.Omega.{arith}
 use mathlib.Core.Path.{_≡_, refl, sym, ap, _∙_}
-use mathlib.Core.List.{List, [], _∷_, _++_}
+use mathlib.Core.List.{List, _∷_, _++_}
 use lib.ListN.{length, take, drop, length-append, length-drop}
 use lib.Seq.{take-at}
 use Rattle.automaton.specs.Read.{found}
 use Rattle.automaton.specs.Inner.{over}
-use Rattle.automaton.specs.Decoded.{written, writtenOver}
 use Rattle.automaton.proofs.WrittenBytes.{room-enough, room-short}
 use Rattle.reduction.specs.Report.{report}
 use Rattle.fensullay.specs.Exports.{lengthNumbers, reportCode, reportNumbers, reportOut}

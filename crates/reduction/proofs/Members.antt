@@ -1,12 +1,12 @@
 -- Tests of states and rules as facts, and rising lists, which their members determine.
 use Prim.Native.Nat.{ℕ, _<_}
 use native.Mathlib.Omega.{arith}
-use mathlib.Core.Path.{_≡_, refl, sym, ap, ap₂, _∙_}
+use mathlib.Core.Path.{_≡_, refl, sym, ap₂}
 use mathlib.Core.List.{List, [], _∷_, List·Memᴰ, List·Memᴰ·head, List·Memᴰ·tail, List·Memᴰ·not-nil, Memᴰ·cast}
 use mathlib.Core.Bool.{Bool, true, false, cond, false≢true}
 use lib.Dec.{eqb}
 use borrow.Author.Tests.{eq-eqb, eqb-true}
-use Rattle.automaton.specs.Lists.{Rising, empty, single, step, all, keep}
+use Rattle.automaton.specs.Lists.{Rising, empty, single, step, keep}
 use Rattle.automaton.specs.Automaton.{Rule}
 use Rattle.automaton.proofs.Keeping.{keep-out}
 use Rattle.simulation.proofs.Search.{and-true-in, and-true-out, any-in, any-out}

@@ -1,12 +1,11 @@
 -- Numbers written over others: what stands before and behind them stays. A rule depends only on the ten numbers of its row.
 use Prim.Native.Nat.{ℕ, zero, suc, _+_, _-_, _*_, _≤_, _<_}
 use native.Mathlib.Nat.{add-zero}
-use native.Mathlib.Numerals.{add-one}
 use native.Mathlib.Omega.{arith}
 use mathlib.Core.Path.{_≡_, refl, sym, ap, _∙_}
 use mathlib.Core.List.{List, [], _∷_, _++_, append-assoc}
-use lib.ListN.{length, take, drop, getD, set, length-take, length-drop, drop-of-length-le}
-use lib.Seq.{length-take-le, take-length, take-take, take-append-le, drop-at, drop-cons, drop-drop, drop-paste}
+use lib.ListN.{length, take, drop, getD, set}
+use lib.Seq.{length-take-le, take-length, take-take, take-append-le, drop-at, drop-drop, drop-paste}
 use lib.Seq.{getD-take, getD-drop}
 use Rattle.automaton.specs.Decoded.{ruleAt}
 use Rattle.automaton.specs.Inner.{over}

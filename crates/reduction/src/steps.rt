@@ -1,12 +1,9 @@
 // The six steps over decoded rules, in place. Each step asks that the rows it works on are in range.
 ghost use mathlib.Core.Path.{_≡_};
 ghost use mathlib.Core.List.{map, List·Memᴰ};
-ghost use mathlib.Core.Bool.{_&&_};
-ghost use Prim.Native.Nat.{ℕ, _+_, _*_, _≤_, _<_};
-ghost use lib.ListN.{length, getD};
-ghost use Rattle.automaton.specs.Lists.{from, keep};
+ghost use Prim.Native.Nat.{ℕ, _≤_, _<_};
+ghost use lib.ListN.{length};
 ghost use Rattle.automaton.specs.Automaton.{Rule, Automaton, WellFormed};
-ghost use Rattle.automaton.specs.StateSet.{member};
 ghost use Rattle.automaton.specs.Decoded.{automatonIn};
 ghost use Rattle.simulation.specs.Simulation as simulation;
 ghost use Rattle.simulation.specs.Words.{statesIn, rulesIn, relationWords};
@@ -214,11 +211,18 @@ pub fn reduce_rows(
     let states = trimmed.states;
     let rules = trimmed.rules;
     let relation = simulate(states, n, rules, ranks, rows);
-    let words = relation.words;
     let left = Size {
         states: n,
         symbols: size.symbols,
         rules,
     };
-    shorten(&words, states, finals, left, ranks, rows, relation.rounds)
+    shorten(
+        &relation.words,
+        states,
+        finals,
+        left,
+        ranks,
+        rows,
+        relation.rounds,
+    )
 }

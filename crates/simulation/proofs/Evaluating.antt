@@ -83,7 +83,7 @@ stacked-refused rules stack words answer e h = record {
 pub stacked-node : (m k : ℕ) (ranks rows : List ℕ) → m ≤ length ranks → 10 * k ≤ length rows
     → ((i : ℕ) → i < k → RowRanged ranks rows i) → (stack : List ℕ) (trees : List Tree) (height f : ℕ) → length trees ≡ height
     → Holds (rulesIn ranks rows k) stack trees → f < m → getD ranks f 0 ≤ height → height - getD ranks f 0 < 1024
-    → 4096 ≤ length stack → (ws : List ℕ) → length ws ≡ 4
+    → 4 * (height - getD ranks f 0 + 1) ≤ length stack → (ws : List ℕ) → length ws ≡ 4
     → ((q : ℕ) → q < 256
     → member ws q ≡ any (leadsTo ranks rows stack (height - getD ranks f 0) q) (keyed rows 0 f 0 k))
     → Stacked (rulesIn ranks rows k) (push (take m ranks) trees f) (over stack (4 * (height - getD ranks f 0)) ws)
@@ -117,7 +117,8 @@ unfolding mapRead
 length-found (found trees) e = (trees, refl, cc)
 length-found (refused c) e = absurd (refused≢found (sym e))
 
-push-low : (ranks : List ℕ) (trees next : List Tree) (f : ℕ) → push ranks trees f ≡ found next → length next ≤ 1024
+push-low : (ranks : List ℕ) (trees next : List Tree) (f : ℕ) → push ranks trees f ≡ found next
+    → (length next ≤ 1024) × (length next ≤ length trees + 1)
 unfolding push
 push-low ranks trees next f e =
     let c₁ = checked _ _ _ e in
@@ -125,7 +126,8 @@ push-low ranks trees next f e =
     let c₃ = checked _ _ _ (c₂ .1) in
     let same : node f (treesIn (reverse (take (getD ranks f 0) trees))) ∷ drop (getD ranks f 0) trees ≡ next = cc (c₃ .1) in
     let few : 1 + length (drop (getD ranks f 0) trees) ≤ 1024 = leb-true _ _ (c₃ .0) in
-    rw (← same) (omega arith)
+    let below : length (drop (getD ranks f 0) trees) ≡ length trees - getD ranks f 0 = length-drop (getD ranks f 0) trees in
+    rw (← same) (omega arith, omega arith)
 
 -- The nodes of a body from an index on are still to be read, on the trees that the words hold.
 module _ (rules : List Rule) (ranks b : List ℕ) where
@@ -133,12 +135,13 @@ module _ (rules : List Rule) (ranks b : List ℕ) where
     pub trees : List Tree
     pub tall : length trees ≡ height
     pub low : height ≤ 1024
+    pub few : 2 * height ≤ i
     pub holds : Holds rules words trees
     pub left : pushAll ranks [] (numbers b) ≡ pushAll ranks trees (numbers (drop i b))
 
   pub reading-all : (words : List ℕ) → Reading words 0 0
   unfolding Holds
-  reading-all words = record { trees = []; tall = refl; low = omega arith; holds = tt; left = refl }
+  reading-all words = record { trees = []; tall = refl; low = omega arith; few = omega arith; holds = tt; left = refl }
 
   module _ {words : List ℕ} {height i : ℕ} (r : Reading words height i) where
     pub reading-none : length b ≤ i + 1 → Stacked rules (pushAll ranks [] (numbers b)) words (At height)
@@ -173,10 +176,12 @@ module _ (rules : List Rule) (ranks b : List ℕ) where
       unfolding heightOf
       reading-next n e =
           let (next, finds, tall) = length-found (push ranks (r .trees) f) (rw e at (s .height)) in
+          let low = push-low ranks (r .trees) next f finds in
           record {
             trees = next;
             tall = tall;
-            low = omega (arith, push-low ranks (r .trees) next f finds);
+            low = omega (arith, low .0);
+            few = omega (arith, low .1, r .tall, r .few);
             holds = s .holds next finds;
             left = left-found next finds;
           }

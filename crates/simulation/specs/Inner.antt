@@ -49,6 +49,10 @@ pub record Indexed (k : ℕ) (ranks rows head next : List ℕ) : Type 0 where
   pub chains : Chains rows 0 k head next
 
 -- A stack of state sets in words: entry e is the four words from 4 e on.
+-- Room for n entries, or for 1,024 where n is greater.
+abbrev pub Room : ℕ → List ℕ → Type 0
+Room n words = (h : ℕ) → h ≤ n → h ≤ 1024 → 4 * h ≤ length words
+
 -- States that are members, one each and in order, of the entries from e on.
 unfoldable pub inOrder : List ℕ → ℕ → List ℕ → Bool
 inOrder words e [] = true

@@ -1,6 +1,6 @@
 // A tree, in postfix order, against a decoded table. The stack holds, for each finished tree, the set of the states that it
 // belongs to: entry e is words 4 e to 4 e + 3, in the layout of a state set.
-ghost use Prim.Native.Nat.{ℕ, _+_, _*_, _≤_, _<_};
+ghost use Prim.Native.Nat.{ℕ, _+_, _*_, _/_, _≤_, _<_};
 ghost use mathlib.Core.Path.{_≡_};
 ghost use mathlib.Core.List.{List, []};
 ghost use lib.ListN.{length, take, drop, getD};
@@ -15,7 +15,7 @@ ghost use Rattle.simulation.specs.Tree.{Tree, any};
 ghost use Rattle.simulation.specs.Words.{rulesIn};
 ghost use Rattle.simulation.specs.Postfix.{isTreeRecord, push, pushAll};
 ghost use Rattle.simulation.specs.Check.{acceptanceOf};
-ghost use Rattle.simulation.specs.Inner.{keyed, Indexed, inOrder, leadsTo, Holds, Stacked};
+ghost use Rattle.simulation.specs.Inner.{keyed, Indexed, Room, inOrder, leadsTo, Holds, Stacked};
 ghost use Rattle.simulation.specs.Inner.{stackAcceptance, nodesAcceptance, treeAcceptance};
 use crate::checking::Answer;
 use crate::index::chain_rules;
@@ -109,7 +109,7 @@ fn step(
     height: usize,
 ) -> Height
     requires { ⌜ Indexed (size .rules) (now ranks) (now rows) (now head) (now next) ⌝ }
-    requires { ⌜ (size .symbols ≤ 256) × ((4096 ≤ length (now stack)) × (height ≤ 1024)) ⌝ }
+    requires { ⌜ (size .symbols ≤ 256) × ((height ≤ 1024) × Room (height + 1) (now stack)) ⌝ }
     ensures { λ r. ⌜ ((trees : List Tree) → length trees ≡ height
         → Holds (rulesIn (now (ranks .entry)) (now (rows .entry)) (size .rules)) (now (stack .entry)) trees
         → Stacked (rulesIn (now (ranks .entry)) (now (rows .entry)) (size .rules))
@@ -150,7 +150,7 @@ fn evaluate(
     stack: &mut [u64],
 ) -> Height
     requires { ⌜ Indexed (size .rules) (now ranks) (now rows) (now head) (now next) ⌝ }
-    requires { ⌜ (size .symbols ≤ 256) × (4096 ≤ length (now stack)) ⌝ }
+    requires { ⌜ (size .symbols ≤ 256) × Room (length (now b) / 2) (now stack) ⌝ }
     ensures { λ r. ⌜ Stacked (rulesIn (now (ranks .entry)) (now (rows .entry)) (size .rules))
         (pushAll (take (size .symbols) (now (ranks .entry))) [] (bytes.numbers (now (b .entry)))) (now (stack .exit)) r ⌝ }
 {
@@ -201,7 +201,30 @@ fn answer_on(height: usize, finals: StateSet, n: usize, stack: &[u64]) -> Answer
     Answer::Accepted
 }
 
-// The answer for a tree's body.
+// The answer for a tree's body, on a stack with room for its nodes.
+fn accept_on(
+    size: Size,
+    finals: StateSet,
+    ranks: &[u8; 256],
+    rows: &[u16; 10240],
+    b: &[u8],
+    stack: &mut [u64],
+) -> Answer
+    requires { ⌜ (size .symbols ≤ 256) × (Room (length (now b) / 2) (now stack) × (4 ≤ length (now stack))) ⌝ }
+    requires { ⌜ WellFormed (automatonIn size (finals .words) (now ranks) (now rows)) ⌝ }
+    ensures { λ r. ⌜ acceptanceOf r ≡ nodesAcceptance
+        (automatonIn size (finals .words) (now (ranks .entry)) (now (rows .entry))) (bytes.numbers (now (b .entry))) ⌝ }
+{
+    let mut head: [u16; 256] = [0; 256];
+    let mut next: [u16; 1024] = [0; 1024];
+    chain_rules(rows, size.rules, 0, &mut head, &mut next);
+    match evaluate(size, ranks, rows, &head, &next, b, stack) {
+        Height::Refused(cause) => Answer::Refused(cause),
+        Height::At(height) => answer_on(height, finals, size.states, stack),
+    }
+}
+
+// The answer for a tree's body; a body of at most 64 nodes gets a small stack, which is cleared sooner.
 fn accept_nodes(
     size: Size,
     finals: StateSet,
@@ -214,14 +237,12 @@ fn accept_nodes(
     ensures { λ r. ⌜ acceptanceOf r ≡ nodesAcceptance
         (automatonIn size (finals .words) (now (ranks .entry)) (now (rows .entry))) (bytes.numbers (now (b .entry))) ⌝ }
 {
-    let mut head: [u16; 256] = [0; 256];
-    let mut next: [u16; 1024] = [0; 1024];
-    chain_rules(rows, size.rules, 0, &mut head, &mut next);
-    let mut stack: [u64; 4096] = [0; 4096];
-    match evaluate(size, ranks, rows, &head, &next, b, &mut stack) {
-        Height::Refused(cause) => Answer::Refused(cause),
-        Height::At(height) => answer_on(height, finals, size.states, &stack),
+    if b.len() <= 128 {
+        let mut stack: [u64; 256] = [0; 256];
+        return accept_on(size, finals, ranks, rows, b, &mut stack);
     }
+    let mut stack: [u64; 4096] = [0; 4096];
+    accept_on(size, finals, ranks, rows, b, &mut stack)
 }
 
 // Whether `t` is one record of kind 16 with an even body, and nothing behind it.

@@ -90,11 +90,10 @@ pub fn relate(table: &[u8], out: &mut [u8]) -> Related
                 return Related::Refused(Refusal::Room);
             }
             let relation = simulate(all_states(n), n, size.rules, &ranks, &rows);
-            let words = relation.words;
-            put_rows(&words, n, out);
+            put_rows(&relation.words, n, out);
             Related::Pairs {
                 rounds: relation.rounds,
-                pairs: count_pairs(&words, n),
+                pairs: count_pairs(&relation.words, n),
             }
         }
     }

@@ -457,7 +457,10 @@ pub fn simulate(
     let mut target_head = [0; 256];
     let mut target_next = [0; 1024];
     chain_rules(rows, k, 1, &mut target_head, &mut target_next);
-    let mut words = [0; 1024];
+    let mut relation = Relation {
+        words: [0; 1024],
+        rounds: 0,
+    };
     let rounds = settle(
         states,
         n,
@@ -468,7 +471,8 @@ pub fn simulate(
         &symbol_next,
         &target_head,
         &target_next,
-        &mut words,
+        &mut relation.words,
     );
-    Relation { words, rounds }
+    relation.rounds = rounds;
+    relation
 }

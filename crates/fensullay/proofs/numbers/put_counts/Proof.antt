@@ -1,7 +1,7 @@
 -- The three counts are written one behind the other.
 use borrow.Author.Needs.{needs}
 use mathlib.Core.Path.{refl, _∙_}
-use mathlib.Core.List.{[], _∷_}
+use mathlib.Core.List.{[]}
 use native.Mathlib.Omega.{arith}
 use lib.ListN.{length-set}
 use lib.Seq.{sets-eq}

@@ -1,9 +1,6 @@
 -- `fensullay::states::fensullay_compare` meets its contract.
 use borrow.Author.Needs.{needs}
 use native.Mathlib.Omega.{arith}
-use mathlib.Core.Path.{sym, ap, _∙_}
-use Rattle.simulation.specs.Query.{comparisonOf}
-use Rattle.simulation.specs.declared.query.Compared.{Compared}
 use Rattle.fensullay.specs.Exports.{compareCode}
 use Rattle.fensullay.proofs.Answering.{too-few, names-none}
 use Rattle.fensullay.proofs.Comparing.{answered-refused, answered-yes, answered-rule}

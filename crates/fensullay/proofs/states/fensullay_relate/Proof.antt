@@ -1,6 +1,5 @@
 -- `fensullay::states::fensullay_relate` meets its contract.
 use borrow.Author.Needs.{needs}
-use native.Mathlib.Omega.{arith}
 use mathlib.Core.Path.{sym, ap, _∙_}
 use Rattle.simulation.specs.Query.{relatedOf}
 use Rattle.fensullay.specs.Exports.{relationNumbers, relateCode, relateNumbers, relateOut}

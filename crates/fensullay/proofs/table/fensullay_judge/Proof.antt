@@ -1,6 +1,5 @@
 -- `fensullay::table::fensullay_judge` meets its contract.
 use borrow.Author.Needs.{needs}
-use native.Mathlib.Omega.{arith}
 use mathlib.Core.Path.{sym, ap, _∙_}
 use Rattle.automaton.specs.Answers.{judgementOf}
 use Rattle.fensullay.specs.Exports.{sizeNumbers, judgeCode, judgeNumbers}

@@ -1,6 +1,5 @@
 -- `fensullay::table::fensullay_reduce` meets its contract.
 use borrow.Author.Needs.{needs}
-use native.Mathlib.Omega.{arith}
 use mathlib.Core.Path.{sym, ap, _∙_}
 use Rattle.reduction.specs.Reduce.{reductionOf}
 use Rattle.fensullay.specs.Exports.{reductionNumbers, reduceCode, reduceNumbers, reduceOut}

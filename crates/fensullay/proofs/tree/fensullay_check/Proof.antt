@@ -1,8 +1,6 @@
 -- `fensullay::tree::fensullay_check` meets its contract.
 use borrow.Author.Needs.{needs}
-use native.Mathlib.Omega.{arith}
-use mathlib.Core.Path.{refl, sym, ap, _∙_}
-use lib.ListN.{length-set}
+use mathlib.Core.Path.{sym, ap, _∙_}
 use Rattle.simulation.specs.Check.{acceptanceOf}
 use Rattle.simulation.specs.declared.checking.Answer.{Answer}
 use Rattle.fensullay.specs.Exports.{verdictOf, countsIn, checkCode, checkCounts}

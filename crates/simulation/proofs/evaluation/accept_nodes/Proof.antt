@@ -1,81 +1,21 @@
--- `simulation::evaluation::accept_nodes` meets its contract: the rules are chained, and the stack holds the tree.
+-- `simulation::evaluation::accept_nodes` meets its contract: either stack has room for the body's nodes.
 use borrow.Author.Needs.{needs}
 use native.Mathlib.Omega.{arith}
-use native.Mathlib.Nat.{add-zero}
-use Prim.Native.Nat.{ℕ, _*_, _≤_, _<_}
-use lib.ListN.{length}
-use Rattle.automaton.specs.Decoded.{automatonIn}
-use Rattle.automaton.proofs.WrittenBytes.{few-states, few-rules}
-use Rattle.simulation.specs.Words.{rulesIn}
-use Rattle.simulation.specs.Check.{acceptanceOf}
-use Rattle.simulation.specs.Inner.{RowRanged}
-use Rattle.simulation.proofs.Ranged.{rows-ranged}
-use Rattle.simulation.proofs.Accepting.{nodes-refused, nodes-found}
 use Rattle.simulation.proofs.evaluation.accept_nodes.Statement.{statement}
 use Rattle.simulation.proofs.evaluation.accept_nodes.Tie as tie
 
-abbrev start : tie.After-next → tie.Start
-start c = c .before .before .before .before
+accept-on-requires : tie.Need-accept-on-requires
+accept-on-requires c κs =
+    let s = c .before .before .before in
+    ((s .pre .0, (λ h few low. omega (arith, c .before .if1 .taken), omega arith)), s .pre .1)
 
-few : (c : tie.After-next) → start c .args .size .rules ≤ 1024
-few c = few-rules (start c .args .size) (start c .args .finals .words) _ _ (start c .pre .1)
-
-room : (c : tie.After-next) → 10 * start c .args .size .rules ≤ length (start c .args .rows .now)
-room c = omega (arith, few c)
-
-ranged : (c : tie.After-next) (i : ℕ) → i < start c .args .size .rules
-    → RowRanged (start c .args .ranks .now) (start c .args .rows .now) i
-ranged c = rows-ranged (start c .args .size) (start c .args .finals .words) _ _ (start c .pre .1)
-
-chain-rules-requires : tie.Need-chain-rules-requires
-chain-rules-requires c κs =
-    ((few c, (search needs, room c)), (λ i h. rw add-zero (ranged c i h .symbol), (search needs, few c)))
-
-evaluate-requires : tie.Need-evaluate-requires
-evaluate-requires c κs =
-    let r = c .before .before .before .before .before .before .before in
-    let s = r .before in (
-      record {
-        rules = few s;
-        ranks-room = omega (arith, c .before .before .before .before);
-        rows-room = room s;
-        head-room = omega (arith, r .chain-rules .kept);
-        next-room = omega (arith, few s, r .chain-rules .kept);
-        ranged = ranged s;
-        chains = r .chain-rules .ensures;
-      },
-      (start s .pre .0, search needs),
-    )
-
--- The place where the arrays were lent first, seen from behind the evaluation.
-abbrev lent : tie.After-evaluate → tie.After-next
-lent c = c .before .before .before .before .before .before .before .before .before
-
-answer-on-requires : tie.Need-answer-on-requires
-answer-on-requires c κs =
-    let v = c .before .before .before .before .before in
-    let s = start (lent v) in
-    (few-states (s .args .size) (s .args .finals .words) _ _ (s .pre .1), omega (arith, v .evaluate .kept))
-
-returns : tie.Need-returns
-unfolding acceptanceOf automatonIn rulesIn
-returns c =
-    let v = c .before .before .before .before in
-    let a = start (lent v) .args in
-    nodes-refused (automatonIn (a .size) (a .finals .words) (a .ranks .now) (a .rows .now)) _ _ _ (v .evaluate .ensures) _
-    (c .before .cause .given .1)
-
-returns-2 : tie.Need-returns-2
-unfolding automatonIn rulesIn
-returns-2 c =
-    let v = c .before .before .before .before .before .before in
-    let a = start (lent v) .args in
-    nodes-found (automatonIn (a .size) (a .finals .words) (a .ranks .now) (a .rows .now)) _ _ _ (v .evaluate .ensures) _
-    (c .before .before .before .height .given .1) _ (c .answer-on .ensures _)
+accept-on-requires-2 : tie.Need-accept-on-requires-2
+accept-on-requires-2 c κs =
+    let s = c .before .before .before in
+    ((s .pre .0, (λ h few low. omega arith, omega arith)), s .pre .1)
 
 pub accept-nodes-spec : {M : Type 1} → statement M
 accept-nodes-spec =
     tie.close
-    (tie.spec (λ c. search needs) (λ c. search needs) chain-rules-requires (λ c. search needs) (λ c. search needs)
-    (λ c. search needs) evaluate-requires (λ c. search needs) (λ c. search needs) (λ c. search needs) answer-on-requires
-    returns returns-2)
+    (tie.spec (λ c. search needs) accept-on-requires (λ c. search needs) (λ c. search needs) accept-on-requires-2
+    (λ c. search needs))

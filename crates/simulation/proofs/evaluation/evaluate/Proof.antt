@@ -1,11 +1,10 @@
 -- `simulation::evaluation::evaluate` meets its contract: the nodes from the index on are still to be read.
 use borrow.Author.Needs.{needs}
 use native.Mathlib.Omega.{arith}
-use Prim.Native.Nat.{ℕ, _-_, _≤_}
+use Prim.Native.Nat.{_-_, _≤_}
 use mathlib.Core.Path.{_≡_, refl, _∙_}
 use lib.ListN.{length, take}
 use Rattle.simulation.specs.Words.{rulesIn}
-use Rattle.simulation.specs.Inner.{heightOf}
 use Rattle.simulation.proofs.Evaluating.{Reading, reading-all, reading-none, reading-refused, reading-next}
 use Rattle.simulation.proofs.evaluation.evaluate.Statement.{statement}
 use Rattle.simulation.proofs.evaluation.evaluate.Tie as tie
@@ -28,7 +27,9 @@ step-requires : tie.Need-step-requires Inv-loop μ-loop
 step-requires c κs =
     let l = c .before .before .before in
     let s = start l in
-    (s .pre .0, (s .pre .1 .0, (omega (arith, s .pre .1 .1, l .loop .inv .1), l .loop .inv .2 .low)))
+    let (_, same, r) = l .loop .inv in
+    let (few, room) = s .pre .1 in
+    (s .pre .0, (few, (r .low, λ h next low. rw same (room h (omega (arith, next, r .few)) low))))
 
 returns : tie.Need-returns Inv-loop μ-loop
 returns c =

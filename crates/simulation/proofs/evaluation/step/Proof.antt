@@ -1,7 +1,7 @@
 -- `simulation::evaluation::step` meets its contract: each return is one of the ways through `push`.
 use borrow.Author.Needs.{needs}
 use native.Mathlib.Omega.{arith}
-use Prim.Native.Nat.{ℕ, _≤_}
+use Prim.Native.Nat.{ℕ, _+_, _-_, _*_, _≤_, _<_}
 use mathlib.Core.Path.{_≡_, refl}
 use lib.ListN.{length}
 use Rattle.simulation.specs.Inner.{heightOf}
@@ -32,15 +32,21 @@ returns-3 c = λ trees high holds.
     stacked-refused _ _ _ _
     (push-bound _ _ (room (k .before)) trees _ (k .if1 .left) (rw high (c .before .if2 .left)) (rw high (c .if3 .taken))) refl
 
+-- The node's own entry has room.
+fits : (s : tie.Start) (rank : ℕ) → s .args .height - rank < 1024
+    → 4 * (s .args .height - rank + 1) ≤ length (s .args .stack .now)
+fits s rank few = s .pre .1 .1 .1 _ (omega arith) (omega arith)
+
 targets-requires : tie.Need-targets-requires
 targets-requires c κs =
     let s = start (c .before .before .before .before .before) in
-    (s .pre .0, (omega (arith, s .pre .1 .0), omega (arith, s .pre .1 .1)))
+    let (low, fit) = s .pre .1 .1 in
+    (s .pre .0, (omega (arith, s .pre .1 .0), omega (arith, fit (s .args .height) (omega arith) low)))
 
 put-entry-requires : tie.Need-put-entry-requires
 put-entry-requires c κs =
     let k = c .before .before .before in
-    omega (arith, k .if3 .left, start (k .before .before .before .before) .pre .1 .1)
+    omega (arith, fits (start (k .before .before .before .before)) _ (k .if3 .left))
 
 four : (c : tie.After-targets) → length (c .targets .result .words) ≡ 4
 four c = search (needs, c .targets .ok)
@@ -54,7 +60,7 @@ returns-4 c = λ trees high holds.
     let s = start (known .before) in
     rw (p .put-entry .ensures)
     (stacked-node _ _ _ _ (room (known .before)) (s .pre .0 .rows-room) (s .pre .0 .ranged) _ trees _ _ high holds
-    (known .if1 .left) (few .before .if2 .left) (few .if3 .left) (s .pre .1 .1 .0) _ (four t) (t .targets .ensures))
+    (known .if1 .left) (few .before .if2 .left) (few .if3 .left) (fits s _ (few .if3 .left)) _ (four t) (t .targets .ensures))
 
 pub step-spec : {M : Type 1} → statement M
 step-spec =

@@ -64,13 +64,13 @@ words-all s = ap length (relation-words s) ∙ length-relation _
 
 put-rows-requires : tie.Need-put-rows-requires
 put-rows-requires c κs =
-    let s = c .before .before .before in
+    let s = c .before .before .before .before in
     let low = few (at-table s) in
     ((low, omega (arith, words-all s)), omega arith)
 
 count-pairs-requires : tie.Need-count-pairs-requires
 count-pairs-requires c κs =
-    let s = c .before .before .before .before .before .before .before in
+    let s = c .before .before .before .before .before .before .before .before .before .before in
     let low = few (at-table s) in
     (low, omega (arith, words-all s))
 
@@ -81,15 +81,14 @@ returns-2 c =
 
 returns-3 : tie.Need-returns-3
 returns-3 c =
-    let s = c .before .before .before .before .before .before .before .before in
+    let s = c .before .before .before .before .before .before .before .before .before .before .before in
     let h = held (at-table s) in
     query-written _ _ (h .automaton) (h .well-formed) (h .judged) _ _ _ _ _ (states-are _ _ _ _ _ h) (omega arith)
     (relation-words s) (rounds-answered s)
-    (c .before .before .before .before .put-rows .ensures) (c .count-pairs .ensures)
+    (c .before .before .before .before .before .before .put-rows .ensures) (c .count-pairs .ensures)
 
 pub relate-spec : {M : Type 1} → statement M
 relate-spec =
     tie.close
     (tie.spec (λ c κs. search needs) (λ c. search needs) (λ c. search needs) mul-if1 returns
-    all-states-requires simulate-requires (λ c. search needs) put-rows-requires (λ c. search needs)
-    count-pairs-requires returns-2 (λ c. search needs) returns-3)
+    all-states-requires simulate-requires put-rows-requires count-pairs-requires returns-2 (λ c. search needs) returns-3)

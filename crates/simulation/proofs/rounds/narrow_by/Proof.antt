@@ -1,5 +1,4 @@
 -- `simulation::rounds::narrow_by` meets its contract: a rule that is not touched takes nothing away.
-use borrow.Author.Needs.{needs}
 use borrow.Author.Tests.{not-true}
 use native.Mathlib.Omega.{arith}
 use mathlib.Core.Path.{sym, _∙_}

@@ -2,11 +2,11 @@
 use borrow.Author.Needs.{needs}
 use borrow.Author.Tests.{le-ltb}
 use native.Mathlib.Omega.{arith}
-use Prim.Native.Nat.{ℕ, _≤_, _<_}
+use Prim.Native.Nat.{ℕ}
 use mathlib.Core.Path.{_≡_, refl, sym, ap, _∙_}
-use mathlib.Core.List.{List, []}
+use mathlib.Core.List.{List}
 use mathlib.Core.Bool.{true}
-use lib.ListN.{length, getD}
+use lib.ListN.{length}
 use Rattle.simulation.specs.Simulation.{allPairs, refine}
 use Rattle.simulation.specs.Words.{statesIn, rulesIn, relationWords}
 use Rattle.simulation.specs.Inner.{relationIn, loses, EmptyFrom, Rounded}
