@@ -32,9 +32,12 @@
  * Refusals and SHORT leave `out` and `numbers` as they were, byte for byte. Behind a result, `out`, `numbers` and `counts` keep what they held. Tables
  * and trees are never written.
  *
- * In each record of a table the causes come in the order 1, 2, 7 (a rule too many), 3 (length), 4, 5, 6; but a rule's symbol (5) comes before the
- * comparison with its rank (3), and its states (5) behind. Too few rules (7) is found at the end. Of a tree: 8, then the node limit (11), then node
- * by node 9, 10, 11, at the end 10.
+ * The table is judged before the tree, the state numbers and the output. In each record of a table the causes come in the order 1, 2, 7 (a rule too
+ * many), 3 (length), 4, 5, 6; but a rule's symbol (5) comes before the comparison with its rank (3), and its states (5) behind. Too few rules (7) is
+ * found at the end. Of a tree: 8, then the node limit (11), then node by node 9, 10, 11, at the end 10.
+ *
+ * The stack that a call needs is said with each function, as trials/bench measures it on the compiled library, rounded up. Leave room for what
+ * may interrupt a call, and for memcpy and memset where these are bound late.
  */
 #ifndef FENSULLAY_H
 #define FENSULLAY_H
@@ -110,7 +113,7 @@ uint32_t fensullay_judge(const uint8_t *table, size_t table_length, size_t *numb
  *   1 to 7     the table is refused; it is judged before the tree
  *   8 to 11    the tree is refused
  *   SHORT      fewer than 3 counts; they stay, and nothing is counted
- * Stack: 56 KiB. No heap, no threads, no locale.
+ * Stack: 58 KiB. No heap, no threads, no locale.
  */
 uint32_t fensullay_check(
     uint32_t *counts, size_t counts_length, const uint8_t *table, size_t table_length, const uint8_t *tree, size_t tree_length);
@@ -122,7 +125,7 @@ uint32_t fensullay_check(
  *   1 to 7     the table is refused; `out` and `numbers` stay
  *   13         `out` has fewer than 32 bytes to a state of the table; it stays, and `numbers` too
  *   SHORT      fewer than 2 numbers; they stay, and `out` too
- * Stack: 67 KiB. No heap, no threads, no locale.
+ * Stack: 51 KiB. No heap, no threads, no locale.
  */
 uint32_t fensullay_relate(
     const uint8_t *table, size_t table_length, uint8_t *out, size_t out_length, size_t *numbers, size_t numbers_length);
@@ -134,7 +137,7 @@ uint32_t fensullay_relate(
  *   1 to 7     the table is refused; `numbers` stays
  *   12         q or r is not below the table's number of states; `numbers` stays
  *   SHORT      numbers_length is 0
- * Stack: 67 KiB. No heap, no threads, no locale.
+ * Stack: 59 KiB. No heap, no threads, no locale.
  */
 uint32_t fensullay_compare(const uint8_t *table, size_t table_length, size_t q, size_t r, size_t *numbers, size_t numbers_length);
 
@@ -146,7 +149,7 @@ uint32_t fensullay_compare(const uint8_t *table, size_t table_length, size_t q, 
  *   1 to 7     the table is refused; `out` and `numbers` stay
  *   13         `out` is shorter than the reduced table; it stays, and `numbers` too. An `out` as long as the table is never too short
  *   SHORT      fewer than 6 numbers; they stay, and `out` too
- * Stack: 63 KiB. No heap, no threads, no locale.
+ * Stack: 61 KiB. No heap, no threads, no locale.
  */
 uint32_t fensullay_reduce(
     const uint8_t *table, size_t table_length, uint8_t *out, size_t out_length, size_t *numbers, size_t numbers_length);
@@ -161,7 +164,7 @@ uint32_t fensullay_reduce(
  *   OK         `out` begins with the lines, also with those of a refused table, without a 0 behind them; their length stands in `numbers`
  *   13         `out` is shorter than the lines; it stays, and `numbers` too
  *   SHORT      numbers_length is 0; `out` stays
- * Stack: 63 KiB. No heap, no threads, no locale.
+ * Stack: 61 KiB. No heap, no threads, no locale.
  */
 uint32_t fensullay_report(
     const uint8_t *input, size_t input_length, uint8_t *out, size_t out_length, size_t *numbers, size_t numbers_length);

@@ -64,19 +64,31 @@ impl Refusal {
 impl fmt::Display for Refusal {
     fn fmt(&self, f: &mut fmt::Formatter<'_>) -> fmt::Result {
         f.write_str(match self {
-            Self::Broken => "the table has a broken record",
-            Self::Kind => "the table lacks a record of the kind that is due",
-            Self::Length => "a record of the table has a wrong length",
-            Self::Limit => "the table exceeds a limit",
-            Self::Range => "a symbol or a state of the table is out of range",
+            Self::Broken => {
+                "what is left of the table is not empty and holds no whole record, or a record's length is below 2"
+            }
+            Self::Kind => {
+                "a record of the table is of another kind than the one that is due, or the table ends before its third record"
+            }
+            Self::Length => "a body's length differs from the table's layout",
+            Self::Limit => {
+                "the table has more than 256 states, 256 symbols or 1,024 rules, or a rank above 8"
+            }
+            Self::Range => "a symbol or a state of the table is not below their number",
             Self::Order => "the table's final states do not strictly increase",
-            Self::Count => "the table has too many or too few rules",
-            Self::Tree => "the tree's bytes do not have a tree's layout",
-            Self::Symbol => "a symbol of the tree is out of range",
-            Self::Shape => "the tree's nodes do not make one tree",
-            Self::Bound => "the tree exceeds a limit",
-            Self::State => "a state number is out of range",
-            Self::Room => "the output is too short",
+            Self::Count => "the table has a rule too many, or too few",
+            Self::Tree => {
+                "the tree is not one whole record of kind 16 with an even body and nothing behind it"
+            }
+            Self::Symbol => "a symbol of the tree is not below the table's number of symbols",
+            Self::Shape => {
+                "a node has fewer finished trees before it than its rank, or the body does not end with one tree"
+            }
+            Self::Bound => {
+                "the tree has more than 16,384 nodes, or more than 1,024 finished trees waiting after a node"
+            }
+            Self::State => "a state number is not below the table's number of states",
+            Self::Room => "the output is shorter than the result",
         })
     }
 }

@@ -1,14 +1,14 @@
 -- What a caller of the C interface concludes from the number that it gets and from what the call left, over the definitions of specs/ alone.
-use Prim.Native.Nat.{ℕ, _<_}
+use Prim.Native.Nat.{ℕ, _≤_, _<_}
 use native.Mathlib.Omega.{arith}
 use mathlib.Core.Path.{_≡_, refl, sym, _∙_}
 use mathlib.Core.List.{List, _++_}
-use lib.ListN.{take, drop, getD}
+use lib.ListN.{length, take, drop, getD}
 use Rattle.automaton.specs.Automaton.{Automaton}
 use Rattle.automaton.specs.Read.{Read, found, refused, mapRead}
 use Rattle.automaton.specs.Table.{judge}
 use Rattle.automaton.specs.Decoded.{sized, written}
-use Rattle.automaton.proofs.Causes.{wider-causes, causes, table-causes}
+use Rattle.automaton.proofs.Causes.{causes, table-causes}
 use Rattle.simulation.specs.Check.{acceptance}
 use Rattle.simulation.specs.Query.{relationQuery, pairQuery}
 use Rattle.simulation.proofs.Causes.{acceptance-causes, relation-causes, pair-causes}
@@ -19,45 +19,87 @@ use Rattle.reduction.specs.declared.reducing.Reduction.{Reduction}
 use Rattle.reduction.specs.declared.reducing.Reduced.the-variants.{Table}
 use Rattle.reduction.proofs.Rewritten.{reduction-causes}
 use Rattle.reduction.proofs.Theorems.{demand-3}
-use Rattle.fensullay.specs.Exports.{codeOf, numbersAfter, judgeCode, checkCode, checkCounts, relateCode, compareCode}
-use Rattle.fensullay.specs.Exports.{reductionNumbers, reduceCode, reduceNumbers, reduceOut, reportCode}
-use Rattle.fensullay.proofs.Answering.{enough-room}
-use Rattle.fensullay.proofs.Means.{WorkMeans, VerdictMeans, with-room, work-codes, verdict-codes, table-or}
+use Rattle.reduction.proofs.Reporting as reporting
+use Rattle.fensullay.specs.Exports.{codeOf, numbersAfter, sizeNumbers, judgeCode, judgeNumbers, checkCode, checkCounts, compareCode}
+use Rattle.fensullay.specs.Exports.{relationNumbers, relateCode, relateNumbers, relateOut}
+use Rattle.fensullay.specs.Exports.{reductionNumbers, reduceCode, reduceNumbers, reduceOut}
+use Rattle.fensullay.specs.Exports.{lengthNumbers, reportCode, reportNumbers, reportOut}
+use Rattle.fensullay.specs.Means.{UpTo, UpToOr, Just, WorkMeans, VerdictMeans}
+use Rattle.fensullay.proofs.Answering.{enough-room, too-few}
+use Rattle.fensullay.proofs.Means.{up-to-or, work-means, verdict-means}
+use Rattle.fensullay.proofs.Leaving.{array-left, numbers-left, written-keeps, relation-keeps, reduction-keeps}
 
 code-sized : (x : Read Automaton) → codeOf (sized x) ≡ codeOf x
 unfolding codeOf sized mapRead
 code-sized (found A) = refl
 code-sized (refused cause) = refl
 
--- What each number means: the fields of the record in Means.antt. Of a call that does some work 0 means that it did; of a question 0 means yes
--- and 101 no.
-
-pub judge-means : (table numbers : List ℕ) → WorkMeans 3 numbers (judge table) (judgeCode table numbers)
+-- What each number means, the fields of the record in specs/Means.antt, and the causes. Judging refuses by 1 to 7.
+pub judge-means : (table numbers : List ℕ) → WorkMeans (UpTo 7) 3 numbers (judge table) (judgeCode table numbers)
 unfolding judgeCode
-judge-means table numbers =
-    rw code-sized (with-room 3 numbers (work-codes (wider-causes (λ cause p. omega arith) (table-causes table))))
+judge-means table numbers = rw code-sized (work-means (λ cause p. omega arith) 3 numbers (table-causes table))
 
-pub check-means : (counts table tree : List ℕ) → VerdictMeans 3 counts (acceptance table tree) (checkCode counts table tree)
+-- A check refuses by 1 to 11.
+pub check-means : (counts table tree : List ℕ) → VerdictMeans (UpTo 11) 3 counts (acceptance table tree) (checkCode counts table tree)
 unfolding checkCode
-check-means counts table tree =
-    with-room 3 counts (verdict-codes _ (wider-causes (λ cause p. omega arith) (acceptance-causes table tree)))
+check-means counts table tree = verdict-means (λ cause p. omega arith) _ 3 counts (acceptance-causes table tree)
 
-pub relate-means : (table out numbers : List ℕ) → WorkMeans 2 numbers (relationQuery table out) (relateCode table out numbers)
+-- A relation query refuses by 1 to 7, or 13.
+pub relate-means : (table out numbers : List ℕ) → WorkMeans (UpToOr 7 13) 2 numbers (relationQuery table out) (relateCode table out numbers)
 unfolding relateCode
-relate-means table out numbers = with-room 2 numbers (work-codes (table-or 13 (omega arith) (relation-causes table out)))
+relate-means table out numbers = work-means (up-to-or 7 13 (omega arith) (omega arith)) 2 numbers (relation-causes table out)
 
-pub compare-means : (table : List ℕ) (q r : ℕ) (numbers : List ℕ) → VerdictMeans 1 numbers (pairQuery table q r) (compareCode table q r numbers)
+-- A pair query refuses by 1 to 7, or 12.
+pub compare-means : (table : List ℕ) (q r : ℕ) (numbers : List ℕ)
+    → VerdictMeans (UpToOr 7 12) 1 numbers (pairQuery table q r) (compareCode table q r numbers)
 unfolding compareCode
-compare-means table q r numbers =
-    with-room 1 numbers (verdict-codes _ (table-or 12 (omega arith) (pair-causes table q r)))
+compare-means table q r numbers = verdict-means (up-to-or 7 12 (omega arith) (omega arith)) _ 1 numbers (pair-causes table q r)
 
-pub reduce-means : (table out numbers : List ℕ) → WorkMeans 6 numbers (reduction table out) (reduceCode table out numbers)
+-- Reducing refuses by 1 to 7, or 13.
+pub reduce-means : (table out numbers : List ℕ) → WorkMeans (UpToOr 7 13) 6 numbers (reduction table out) (reduceCode table out numbers)
 unfolding reduceCode
-reduce-means table out numbers = with-room 6 numbers (work-codes (table-or 13 (omega arith) (reduction-causes table out)))
+reduce-means table out numbers = work-means (up-to-or 7 13 (omega arith) (omega arith)) 6 numbers (reduction-causes table out)
 
-pub report-means : (input out numbers : List ℕ) → WorkMeans 1 numbers (written (report input) out) (reportCode input out numbers)
+-- The report refuses by 13 alone: a refused table is reported.
+pub report-means : (input out numbers : List ℕ) → WorkMeans (Just 13) 1 numbers (written (report input) out) (reportCode input out numbers)
 unfolding reportCode written
-report-means input out numbers = with-room 1 numbers (work-codes (search causes))
+report-means input out numbers = work-means (λ cause p. omega arith) 1 numbers (search causes)
+
+-- Where judging does not answer 0, the numbers are what they were.
+pub judge-leaves : (table numbers : List ℕ) → (judgeCode table numbers ≡ 0 → ⊥) → judgeNumbers table numbers ≡ numbers
+unfolding judgeCode judgeNumbers
+judge-leaves table numbers = numbers-left 3 numbers (sized (judge table)) sizeNumbers
+
+-- A check adds its refusals to the counts: these are what they were where it answers 100.
+pub check-leaves : (counts table tree : List ℕ) → checkCode counts table tree ≡ 100 → checkCounts counts table tree ≡ counts
+unfolding checkCounts
+check-leaves counts table tree h = sym (too-few 3 counts _ counts (check-means counts table tree .short .0 h))
+
+-- Where a relation query, reducing or the report does not answer 0, the numbers and the output are what they were.
+pub relate-leaves : (table out numbers : List ℕ) → (relateCode table out numbers ≡ 0 → ⊥)
+    → (relateNumbers table out numbers ≡ numbers) × (relateOut table out numbers ≡ out)
+unfolding relateCode relateNumbers relateOut
+relate-leaves table out numbers h =
+    let x = relationQuery table out in
+    (numbers-left 2 numbers x relationNumbers h, array-left 2 numbers x _ out (relation-keeps table out) h)
+
+pub reduce-leaves : (table out numbers : List ℕ) → (reduceCode table out numbers ≡ 0 → ⊥)
+    → (reduceNumbers table out numbers ≡ numbers) × (reduceOut table out numbers ≡ out)
+unfolding reduceCode reduceNumbers reduceOut
+reduce-leaves table out numbers h =
+    let x = reduction table out in
+    (numbers-left 6 numbers x reductionNumbers h, array-left 6 numbers x _ out (reduction-keeps table out) h)
+
+pub report-leaves : (input out numbers : List ℕ) → (reportCode input out numbers ≡ 0 → ⊥)
+    → (reportNumbers input out numbers ≡ numbers) × (reportOut input out numbers ≡ out)
+unfolding reportCode reportNumbers reportOut
+report-leaves input out numbers h =
+    let x = written (report input) out in
+    (numbers-left 1 numbers x lengthNumbers h, array-left 1 numbers x _ out (written-keeps (report input) out) h)
+
+-- A report has at most 64 bytes.
+pub report-short : (input : List ℕ) → length (report input) ≤ 64
+report-short = reporting.report-short
 
 -- A call of reducing that answered 0: its numbers and its bytes meet demand 3.
 pub reduced-demand-3 : (table out numbers out′ numbers′ : List ℕ) → ((i : ℕ) → getD table i 0 < 256)

@@ -46,7 +46,7 @@ pub record Demand3 (table out : List ℕ) (r : Reduction) (bytes : List ℕ) : T
   -- Both accept the same trees over the table's symbols, of any size. (Acceptance by runs is 01's "belongs to a final state": the
   -- simulation's theorems `belongs-reaches` and `accepted-runs`.)
   pub same-trees : (t : Tree) → Over (first .ranks) t → Accepts first t ↔ Accepts reduced t
-  -- Whatever bytes are posted as a tree and whatever was counted before, a check against either gives the same answer or refusal, and the
+  -- Whatever bytes are given as a tree and whatever was counted before, a check against either gives the same answer or refusal, and the
   -- same counts.
   pub same-answer : (tree : List ℕ) → acceptance table tree ≡ acceptance bytes tree
   pub same-counts : (counts : Counts) (tree : List ℕ) → counted counts (acceptance table tree) ≡ counted counts (acceptance bytes tree)

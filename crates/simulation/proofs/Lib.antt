@@ -17,6 +17,7 @@ pub mod Accepting
 pub mod RelationWords
 pub mod Rows
 pub mod Walks
+pub mod Groups
 pub mod Settling
 pub mod Touching
 pub mod Queries

@@ -1,6 +1,6 @@
 -- A relation in words: a bit is a pair, the words' bytes are the rows, and the bits that are set are the pairs.
 use Prim.Native.Nat.{ℕ, zero, suc, _+_, _-_, _*_, _/_, _%_, _^_, _≤_, _<_}
-use mathlib.Core.Path.{_≡_, refl, sym, ap, _∙_}
+use mathlib.Core.Path.{_≡_, refl, sym, ap, ap₂, _∙_}
 use mathlib.Core.List.{List, [], _∷_, _++_, map, map-append, append-assoc}
 use mathlib.Core.Bool.{Bool, true, false, cond}
 use native.Mathlib.Nat.{add-zero, add-suc, suc-add, zero-add, add-assoc}
@@ -265,15 +265,66 @@ over-one : (out : List ℕ) (at v : ℕ) → at + 1 ≤ length out → set out a
 unfolding over
 over-one out at v h = sets-eq (v ∷ []) out at h
 
-pub bytes-next : (out ws now : List ℕ) (i : ℕ) → now ≡ over out 0 (bytesOf ws i) → length now ≡ length out
-    → i < length out → set now i (byteOf ws i) ≡ over out 0 (bytesOf ws (i + 1))
+length-bytes : (ws : List ℕ) (i : ℕ) → length (bytesOf ws i) ≡ i
 unfolding bytesOf
-bytes-next out ws now i e same h =
-    let place : i ≡ 0 + length (map (byteOf ws) (from 0 i)) =
-    omega (arith, length-map (from 0 i) (byteOf ws), length-from 0 i) in
-    over-then out 0 (map (byteOf ws) (from 0 i)) now i (byteOf ws i ∷ []) _ e
-    (over-one now i (byteOf ws i) (omega arith)) place (omega arith)
-    ∙ ap (over out 0) (rw (from-step, map-append, zero-add))
+length-bytes ws i = length-map (from 0 i) (byteOf ws) ∙ length-from 0 i
+
+-- A word's byte.
+word-byte : (w j : ℕ) → j < 8 → w / 2 ^ (8 * j) % 256 ≡ byteOf (w ∷ []) j
+unfolding byteOf
+word-byte w j h =
+    let first : j / 8 ≡ 0 = omega arith in
+    let same : j % 8 ≡ j = omega arith in
+    rw (first, same)
+
+pub word-next : (out : List ℕ) (at w : ℕ) (now : List ℕ) (j : ℕ) → now ≡ over out at (bytesOf (w ∷ []) j) → length now ≡ length out
+    → j < 8 → at + 8 ≤ length out → set now (at + j) (w / 2 ^ (8 * j) % 256) ≡ over out at (bytesOf (w ∷ []) (j + 1))
+word-next out at w now j e same h room =
+    let place : at + j ≡ at + length (bytesOf (w ∷ []) j) = ap (λ (n : ℕ). at + n) (sym (length-bytes (w ∷ []) j)) in
+    rw (word-byte w j h)
+    (over-then out at (bytesOf (w ∷ []) j) now (at + j) (byteOf (w ∷ []) j ∷ []) _ e
+    (over-one now (at + j) (byteOf (w ∷ []) j) (omega arith)) place (omega arith)
+    ∙ ap (over out at) (one-more j))
+  where
+    one-more : (j : ℕ) → bytesOf (w ∷ []) j ++ (byteOf (w ∷ []) j ∷ []) ≡ bytesOf (w ∷ []) (j + 1)
+    one-more j = unfold bytesOf in rw (from-step, map-append, zero-add)
+
+-- The bytes of one word more.
+shifted : (f g : ℕ → ℕ) (a b n : ℕ) → ((j : ℕ) → j < n → f (a + j) ≡ g (b + j)) → map f (from a n) ≡ map g (from b n)
+unfolding from
+shifted f g a b zero h = refl
+shifted f g a b (suc n) h =
+    ap₂ (λ (x : ℕ) (xs : List ℕ). x ∷ xs) (simp add-zero at (h 0 (omega arith)))
+    (shifted f g (suc a) (suc b) n (λ j l. later j l))
+  where
+    later : (j : ℕ) → j < n → f (suc a + j) ≡ g (suc b + j)
+    later j l =
+        let e : suc a + j ≡ a + suc j = omega arith in
+        let d : suc b + j ≡ b + suc j = omega arith in
+        rw (e, d) (h (suc j) (omega arith))
+
+bytes-word : (ws : List ℕ) (i : ℕ) → bytesOf ws (8 * i) ++ bytesOf (getD ws i 0 ∷ []) 8 ≡ bytesOf ws (8 * (i + 1))
+unfolding bytesOf byteOf
+bytes-word ws i =
+    let more : 8 * (i + 1) ≡ 8 * i + 8 = omega arith in
+    rw (more, from-append, map-append)
+    (ap (λ (l : List ℕ). map (byteOf ws) (from 0 (8 * i)) ++ l)
+    (sym (shifted (byteOf ws) (byteOf (getD ws i 0 ∷ [])) (0 + 8 * i) 0 8 (λ j h. same j h))))
+  where
+    same : (j : ℕ) → j < 8 → byteOf ws (0 + 8 * i + j) ≡ byteOf (getD ws i 0 ∷ []) (0 + j)
+    same j h =
+        let word : (0 + 8 * i + j) / 8 ≡ i = omega arith in
+        let byte : (0 + 8 * i + j) % 8 ≡ (0 + j) % 8 = omega arith in
+        let first : (0 + j) / 8 ≡ 0 = omega arith in
+        rw (word, byte, first)
+
+pub words-next : (out ws now : List ℕ) (i : ℕ) (next : List ℕ) → now ≡ over out 0 (bytesOf ws (8 * i))
+    → next ≡ over now (8 * i) (bytesOf (getD ws i 0 ∷ []) 8) → 8 * i + 8 ≤ length out → next ≡ over out 0 (bytesOf ws (8 * (i + 1)))
+words-next out ws now i next e f room =
+    let place : 8 * i ≡ 0 + length (bytesOf ws (8 * i)) = omega (arith, length-bytes ws (8 * i)) in
+    over-then out 0 (bytesOf ws (8 * i)) now (8 * i) (bytesOf (getD ws i 0 ∷ []) 8) next e f place
+    (omega (arith, length-bytes (getD ws i 0 ∷ []) 8))
+    ∙ ap (over out 0) (bytes-word ws i)
 
 pub ones-next : (ws : List ℕ) (i : ℕ) → i < length ws → onesOf (take (i + 1) ws) ≡ onesOf (take i ws) + ones (getD ws i 0)
 unfolding onesOf

@@ -38,15 +38,30 @@ pub data Chain (next : List ℕ) : ℕ → List ℕ → Type 0 where
 unfoldable pub Chains : List ℕ → ℕ → ℕ → List ℕ → List ℕ → Type 0
 Chains rows column k head next = (key : ℕ) → key < 256 → Chain next (getD head key 0) (keyed rows column key 0 k)
 
--- The k rules of decoded arrays, chained by symbol: the arrays have room for them, and their rows are in range.
-pub record Indexed (k : ℕ) (ranks rows head next : List ℕ) : Type 0 where
+-- Numbers are placed at index `at` and behind; what stood before it stays.
+pub record Placed (numbers : List ℕ) (at : ℕ) (order next : List ℕ) : Type 0 where
+  pub kept : (j : ℕ) → j < at → getD next j 0 ≡ getD order j 0
+  pub placed : (j : ℕ) → j < length numbers → getD next (at + j) 0 ≡ getD numbers j 0
+
+-- The rules of a symbol stand in order from its index on, and those of the next symbol behind them.
+pub record Group (rows : List ℕ) (k : ℕ) (first order : List ℕ) (f : ℕ) : Type 0 where
+  pub end : getD first (f + 1) 0 ≡ getD first f 0 + length (keyed rows 0 f 0 k)
+  pub placed : (j : ℕ) → j < length (keyed rows 0 f 0 k) → getD order (getD first f 0 + j) 0 ≡ getD (keyed rows 0 f 0 k) j 0
+
+-- The numbers of the k rules, grouped by symbol, of which there are m.
+unfoldable pub Groups : List ℕ → ℕ → ℕ → List ℕ → List ℕ → Type 0
+Groups rows k m first order = (f : ℕ) → f < m → (getD first (f + 1) 0 ≤ k) × Group rows k first order f
+
+-- The k rules of decoded arrays, grouped by their m symbols: the arrays have room for them, and their rows are in range.
+pub record Indexed (k m : ℕ) (ranks rows first order : List ℕ) : Type 0 where
   pub rules : k ≤ 1024
+  pub symbols : m ≤ 256
   pub ranks-room : 256 ≤ length ranks
   pub rows-room : 10 * k ≤ length rows
-  pub head-room : 256 ≤ length head
-  pub next-room : k ≤ length next
+  pub first-room : m < length first
+  pub order-room : k ≤ length order
   pub ranged : (i : ℕ) → i < k → RowRanged ranks rows i
-  pub chains : Chains rows 0 k head next
+  pub groups : Groups rows k m first order
 
 -- A stack of state sets in words: entry e is the four words from 4 e on.
 -- Room for n entries, or for 1,024 where n is greater.

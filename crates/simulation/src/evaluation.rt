@@ -18,7 +18,7 @@ ghost use Rattle.simulation.specs.Check.{acceptanceOf};
 ghost use Rattle.simulation.specs.Inner.{keyed, Indexed, Room, inOrder, leadsTo, Holds, Stacked};
 ghost use Rattle.simulation.specs.Inner.{stackAcceptance, nodesAcceptance, treeAcceptance};
 use crate::checking::Answer;
-use crate::index::chain_rules;
+use crate::index::group_rules;
 use automaton::Opened;
 use automaton::Refusal;
 use automaton::Size;
@@ -71,28 +71,30 @@ fn in_order(stack: &[u64], e: usize, rows: &[u16], at: usize, count: usize) -> b
 // The targets of the symbol's rules whose children are, in order, in the stack's entries from e on.
 fn targets(
     k: usize,
+    m: usize,
     ranks: &[u8],
     rows: &[u16],
-    head: &[u16],
-    next: &[u16],
+    first: &[u16],
+    order: &[u16],
     symbol: usize,
     stack: &[u64],
     e: usize,
 ) -> StateSet
-    requires { ⌜ Indexed k (now ranks) (now rows) (now head) (now next) ⌝ }
-    requires { ⌜ (symbol < 256) × (4 * (e + getD (now ranks) symbol 0) ≤ length (now stack)) ⌝ }
+    requires { ⌜ Indexed k m (now ranks) (now rows) (now first) (now order) ⌝ }
+    requires { ⌜ (symbol < m) × (4 * (e + getD (now ranks) symbol 0) ≤ length (now stack)) ⌝ }
     ensures { λ r. ⌜ ((q : ℕ) → q < 256 → member (r .words) q
         ≡ any (leadsTo (now (ranks .entry)) (now (rows .entry)) (now (stack .entry)) e q) (keyed (now (rows .entry)) 0 symbol 0 k)) ⌝ }
 {
     let rank = ranks[symbol] as usize;
     let mut set = StateSet::empty();
-    let mut link = head[symbol] as usize;
-    while link > 0 {
-        let i = link - 1;
+    let end = first[symbol + 1] as usize;
+    let mut j = first[symbol] as usize;
+    while j < end {
+        let i = order[j] as usize;
         if in_order(stack, e, rows, 10 * i + 2, rank) {
             set = set.with(rows[10 * i + 1] as usize);
         }
-        link = next[i] as usize;
+        j += 1;
     }
     set
 }
@@ -102,14 +104,14 @@ fn step(
     size: Size,
     ranks: &[u8],
     rows: &[u16],
-    head: &[u16],
-    next: &[u16],
+    first: &[u16],
+    order: &[u16],
     symbol: usize,
     stack: &mut [u64],
     height: usize,
 ) -> Height
-    requires { ⌜ Indexed (size .rules) (now ranks) (now rows) (now head) (now next) ⌝ }
-    requires { ⌜ (size .symbols ≤ 256) × ((height ≤ 1024) × Room (height + 1) (now stack)) ⌝ }
+    requires { ⌜ Indexed (size .rules) (size .symbols) (now ranks) (now rows) (now first) (now order) ⌝ }
+    requires { ⌜ (height ≤ 1024) × Room (height + 1) (now stack) ⌝ }
     ensures { λ r. ⌜ ((trees : List Tree) → length trees ≡ height
         → Holds (rulesIn (now (ranks .entry)) (now (rows .entry)) (size .rules)) (now (stack .entry)) trees
         → Stacked (rulesIn (now (ranks .entry)) (now (rows .entry)) (size .rules))
@@ -126,7 +128,17 @@ fn step(
     if e >= 1024 {
         return Height::Refused(Refusal::Bound);
     }
-    let set = targets(size.rules, ranks, rows, head, next, symbol, stack, e);
+    let set = targets(
+        size.rules,
+        size.symbols,
+        ranks,
+        rows,
+        first,
+        order,
+        symbol,
+        stack,
+        e,
+    );
     put_entry(stack, e, set);
     Height::At(e + 1)
 }
@@ -144,13 +156,13 @@ fn evaluate(
     size: Size,
     ranks: &[u8],
     rows: &[u16],
-    head: &[u16],
-    next: &[u16],
+    first: &[u16],
+    order: &[u16],
     b: &[u8],
     stack: &mut [u64],
 ) -> Height
-    requires { ⌜ Indexed (size .rules) (now ranks) (now rows) (now head) (now next) ⌝ }
-    requires { ⌜ (size .symbols ≤ 256) × Room (length (now b) / 2) (now stack) ⌝ }
+    requires { ⌜ Indexed (size .rules) (size .symbols) (now ranks) (now rows) (now first) (now order) ⌝ }
+    requires { ⌜ Room (length (now b) / 2) (now stack) ⌝ }
     ensures { λ r. ⌜ Stacked (rulesIn (now (ranks .entry)) (now (rows .entry)) (size .rules))
         (pushAll (take (size .symbols) (now (ranks .entry))) [] (bytes.numbers (now (b .entry)))) (now (stack .exit)) r ⌝ }
 {
@@ -158,7 +170,7 @@ fn evaluate(
     let mut i: usize = 0;
     while i + 1 < b.len() {
         let symbol = symbol_at(b, i);
-        match step(size, ranks, rows, head, next, symbol, stack, height) {
+        match step(size, ranks, rows, first, order, symbol, stack, height) {
             Height::Refused(cause) => return Height::Refused(cause),
             Height::At(h) => {
                 height = h;
@@ -215,10 +227,10 @@ fn accept_on(
     ensures { λ r. ⌜ acceptanceOf r ≡ nodesAcceptance
         (automatonIn size (finals .words) (now (ranks .entry)) (now (rows .entry))) (bytes.numbers (now (b .entry))) ⌝ }
 {
-    let mut head: [u16; 256] = [0; 256];
-    let mut next: [u16; 1024] = [0; 1024];
-    chain_rules(rows, size.rules, 0, &mut head, &mut next);
-    match evaluate(size, ranks, rows, &head, &next, b, stack) {
+    let mut first: [u16; 257] = [0; 257];
+    let mut order: [u16; 1024] = [0; 1024];
+    group_rules(rows, size.rules, size.symbols, &mut first, &mut order);
+    match evaluate(size, ranks, rows, &first, &order, b, stack) {
         Height::Refused(cause) => Answer::Refused(cause),
         Height::At(height) => answer_on(height, finals, size.states, stack),
     }

@@ -1,6 +1,7 @@
 // The relation query and the pair query.
 ghost use Prim.Native.Nat.{ℕ, _*_, _+_, _≤_, _<_};
 ghost use mathlib.Core.Path.{_≡_};
+ghost use mathlib.Core.List.{[], _∷_};
 ghost use lib.ListN.{length, take, drop};
 ghost use Rattle.automaton.specs.Lists.{from};
 ghost use Rattle.automaton.specs.StateSet.{setOf};
@@ -12,6 +13,7 @@ ghost use Rattle.simulation.specs.Query.{relatedOf, relationQuery, relat
 ghost use Rattle.simulation.specs.Words.{rulesIn, relationWords};
 ghost use Rattle.simulation.specs.Inner.{RowRanged, StatesBelow, bytesOf, onesOf, firstUnmatched};
 use crate::rounds::simulate;
+use crate::rounds::simulate_into;
 use automaton::Judged;
 use automaton::Refusal;
 use automaton::StateSet;
@@ -44,6 +46,18 @@ fn all_states(n: usize) -> StateSet
     set
 }
 
+// The eight bytes of a word from `at` on, the lowest first.
+fn put_word(out: &mut [u8], at: usize, word: u64)
+    requires { ⌜ at + 8 ≤ length (now out) ⌝ }
+    ensures { λ _. ⌜ now (out .exit) ≡ over (now (out .entry)) at (bytesOf (word ∷ []) 8) ⌝ }
+{
+    let mut j: usize = 0;
+    while j < 8 {
+        out[at + j] = ((word >> (8 * j)) % 256) as u8;
+        j += 1;
+    }
+}
+
 // The rows of n states at the start of `out`, the bytes of their words in order.
 fn put_rows(words: &[u64], n: usize, out: &mut [u8])
     requires { ⌜ (n ≤ 256) × (4 * n ≤ length (now words)) ⌝ }
@@ -51,8 +65,8 @@ fn put_rows(words: &[u64], n: usize, out: &mut [u8])
     ensures { λ _. ⌜ now (out .exit) ≡ over (now (out .entry)) 0 (bytesOf (now (words .entry)) (32 * n)) ⌝ }
 {
     let mut i: usize = 0;
-    while i < 32 * n {
-        out[i] = ((words[i / 8] >> (8 * (i % 8))) % 256) as u8;
+    while i < 4 * n {
+        put_word(out, 8 * i, words[i]);
         i += 1;
     }
 }
@@ -89,11 +103,12 @@ pub fn relate(table: &[u8], out: &mut [u8]) -> Related
             if out.len() < 32 * n {
                 return Related::Refused(Refusal::Room);
             }
-            let relation = simulate(all_states(n), n, size.rules, &ranks, &rows);
-            put_rows(&relation.words, n, out);
+            let mut words: [u64; 1024] = [0; 1024];
+            let rounds = simulate_into(all_states(n), n, size.rules, &ranks, &rows, &mut words);
+            put_rows(&words, n, out);
             Related::Pairs {
-                rounds: relation.rounds,
-                pairs: count_pairs(&relation.words, n),
+                rounds,
+                pairs: count_pairs(&words, n),
             }
         }
     }

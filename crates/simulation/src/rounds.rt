@@ -436,7 +436,45 @@ fn settle(
     rounds
 }
 
-// The largest downward simulation of the k rules in decoded arrays, on the states below n that are in a set.
+// The largest downward simulation of the k rules in decoded arrays, on the states below n that are in a set: its words over words that are
+// 0, and its rounds.
+pub fn simulate_into(
+    states: StateSet,
+    n: usize,
+    k: usize,
+    ranks: &[u8; 256],
+    rows: &[u16; 10240],
+    words: &mut [u64; 1024],
+) -> usize
+    requires { ⌜ (n ≤ 256) × (k ≤ 1024) ⌝ }
+    requires { ⌜ ((i : ℕ) → i < k → RowRanged (now ranks) (now rows) i) ⌝ }
+    requires { ⌜ ((i : ℕ) → getD (now words) i 0 ≡ 0) ⌝ }
+    ensures { λ r. ⌜ r ≡ simulation.rounds
+        (rulesIn (now (ranks .entry)) (now (rows .entry)) k) (statesIn n (states .words)) ⌝ }
+    ensures { λ r. ⌜ now (words .exit) ≡ relationWords
+        (simulation.relation (rulesIn (now (ranks .entry)) (now (rows .entry)) k) (statesIn n (states .words))) ⌝ }
+{
+    let mut symbol_head = [0; 256];
+    let mut symbol_next = [0; 1024];
+    chain_rules(rows, k, 0, &mut symbol_head, &mut symbol_next);
+    let mut target_head = [0; 256];
+    let mut target_next = [0; 1024];
+    chain_rules(rows, k, 1, &mut target_head, &mut target_next);
+    settle(
+        states,
+        n,
+        k,
+        ranks,
+        rows,
+        &symbol_head,
+        &symbol_next,
+        &target_head,
+        &target_next,
+        words,
+    )
+}
+
+// The same relation in a struct.
 pub fn simulate(
     states: StateSet,
     n: usize,
@@ -451,28 +489,11 @@ pub fn simulate(
     ensures { λ r. ⌜ r .words ≡ relationWords
         (simulation.relation (rulesIn (now (ranks .entry)) (now (rows .entry)) k) (statesIn n (states .words))) ⌝ }
 {
-    let mut symbol_head = [0; 256];
-    let mut symbol_next = [0; 1024];
-    chain_rules(rows, k, 0, &mut symbol_head, &mut symbol_next);
-    let mut target_head = [0; 256];
-    let mut target_next = [0; 1024];
-    chain_rules(rows, k, 1, &mut target_head, &mut target_next);
     let mut relation = Relation {
         words: [0; 1024],
         rounds: 0,
     };
-    let rounds = settle(
-        states,
-        n,
-        k,
-        ranks,
-        rows,
-        &symbol_head,
-        &symbol_next,
-        &target_head,
-        &target_next,
-        &mut relation.words,
-    );
+    let rounds = simulate_into(states, n, k, ranks, rows, &mut relation.words);
     relation.rounds = rounds;
     relation
 }

@@ -75,13 +75,30 @@ fn followed(more: &[u8]) -> Vec<u8> {
     [&bench(), more].concat()
 }
 
+/// Words of document 01's causes, by their numbers.
+const WORDS: [[&str; 2]; 13] = [
+    ["whole record", "below 2"],
+    ["kind", "third record"],
+    ["length", "layout"],
+    ["256", "1,024"],
+    ["symbol", "state"],
+    ["final states", "increase"],
+    ["too many", "too few"],
+    ["kind 16", "even"],
+    ["symbol", "tree"],
+    ["fewer", "one tree"],
+    ["16,384 nodes", "1,024"],
+    ["state number", "not below"],
+    ["output", "shorter than the result"],
+];
+
 #[test]
 fn numbers_and_texts() {
-    for (number, refusal) in (1..).zip(Refusal::ALL) {
+    for ((number, refusal), words) in (1..).zip(Refusal::ALL).zip(WORDS) {
         assert_eq!(refusal.number(), number);
         assert_eq!(Refusal::from_number(number), Some(refusal));
         let error: Box<dyn Error> = Box::new(refusal);
-        assert!(!error.to_string().is_empty());
+        assert!(words.iter().all(|word| error.to_string().contains(word)), "{number}: {error}");
     }
     for number in [0, 14, 100, 101, 257, u32::MAX] {
         assert_eq!(Refusal::from_number(number), None);

@@ -1,5 +1,5 @@
 use checker::{Automaton, Simulation};
-use trials::shapes::{bench_table, chain, grown, two_cycles};
+use trials::shapes::{LEAF, bench_table, chain, grown, two_cycles};
 use trials::{Call, Loan, Sizes, layout};
 
 pub struct Workload {
@@ -41,13 +41,13 @@ pub fn all() -> [Workload; 6] {
             "chain of 250 rounds",
             "251 states in a chain over one unary symbol, a leaf where it begins",
             &chain(251),
-            vec![],
+            unary_trees(),
         ),
         Workload::new(
             "cycles of 127 and 129",
             "one unary symbol, a leaf at the first state of one cycle and at the others of the other",
             &two_cycles(127, 129),
-            vec![],
+            unary_trees(),
         ),
     ];
     assert_eq!(workloads[4].rounds, 250);
@@ -96,6 +96,11 @@ impl Workload {
 /// A tree of 3 nodes and one of 16,383.
 fn binary_trees(leaf: u16, inner: u16) -> Vec<Tree> {
     [1, 8_191].map(|inners| Complete { leaf, inner, rank: 2, inners }.tree()).into()
+}
+
+/// A tree of 2 nodes and one of 16,384.
+fn unary_trees() -> Vec<Tree> {
+    [1, 16_383].map(|inners| Complete { leaf: LEAF, inner: 0, rank: 1, inners }.tree()).into()
 }
 
 /// The complete tree of this many inner nodes. Its nodes are numbered from the

@@ -1,7 +1,6 @@
--- `simulation::evaluation::accept_on` meets its contract: the rules are chained, and the stack holds the tree.
+-- `simulation::evaluation::accept_on` meets its contract: the rules are grouped, and the stack holds the tree.
 use borrow.Author.Needs.{needs}
 use native.Mathlib.Omega.{arith}
-use native.Mathlib.Nat.{add-zero}
 use Prim.Native.Nat.{ℕ, _*_, _≤_, _<_}
 use lib.ListN.{length}
 use Rattle.automaton.specs.Decoded.{automatonIn}
@@ -14,22 +13,22 @@ use Rattle.simulation.proofs.Accepting.{nodes-refused, nodes-found}
 use Rattle.simulation.proofs.evaluation.accept_on.Statement.{statement}
 use Rattle.simulation.proofs.evaluation.accept_on.Tie as tie
 
-abbrev start : tie.After-next → tie.Start
+abbrev start : tie.After-order → tie.Start
 start c = c .before .before .before .before .before
 
-few : (c : tie.After-next) → start c .args .size .rules ≤ 1024
+few : (c : tie.After-order) → start c .args .size .rules ≤ 1024
 few c = few-rules (start c .args .size) (start c .args .finals .words) _ _ (start c .pre .1)
 
-room : (c : tie.After-next) → 10 * start c .args .size .rules ≤ length (start c .args .rows .now)
+room : (c : tie.After-order) → 10 * start c .args .size .rules ≤ length (start c .args .rows .now)
 room c = omega (arith, few c)
 
-ranged : (c : tie.After-next) (i : ℕ) → i < start c .args .size .rules
+ranged : (c : tie.After-order) (i : ℕ) → i < start c .args .size .rules
     → RowRanged (start c .args .ranks .now) (start c .args .rows .now) i
 ranged c = rows-ranged (start c .args .size) (start c .args .finals .words) _ _ (start c .pre .1)
 
-chain-rules-requires : tie.Need-chain-rules-requires
-chain-rules-requires c κs =
-    ((few c, (search needs, room c)), (λ i h. rw add-zero (ranged c i h .symbol), (search needs, few c)))
+group-rules-requires : tie.Need-group-rules-requires
+group-rules-requires c κs =
+    ((few c, (start c .pre .0 .0, room c)), (λ i h. ranged c i h .symbol, (search needs, few c)))
 
 evaluate-requires : tie.Need-evaluate-requires
 evaluate-requires c κs =
@@ -37,18 +36,19 @@ evaluate-requires c κs =
     let s = r .before in (
       record {
         rules = few s;
+        symbols = start s .pre .0 .0;
         ranks-room = omega (arith, c .before .before .before .before);
         rows-room = room s;
-        head-room = omega (arith, r .chain-rules .kept);
-        next-room = omega (arith, few s, r .chain-rules .kept);
+        first-room = omega (arith, r .group-rules .kept);
+        order-room = omega (arith, few s, r .group-rules .kept);
         ranged = ranged s;
-        chains = r .chain-rules .ensures;
+        groups = r .group-rules .ensures;
       },
-      (start s .pre .0 .0, start s .pre .0 .1 .0),
+      start s .pre .0 .1 .0,
     )
 
 -- The place where the arrays were lent first, seen from behind the evaluation.
-abbrev lent : tie.After-evaluate → tie.After-next
+abbrev lent : tie.After-evaluate → tie.After-order
 lent c = c .before .before .before .before .before .before .before .before .before
 
 answer-on-requires : tie.Need-answer-on-requires
@@ -76,6 +76,6 @@ returns-2 c =
 pub accept-on-spec : {M : Type 1} → statement M
 accept-on-spec =
     tie.close
-    (tie.spec (λ c. search needs) (λ c. search needs) chain-rules-requires (λ c. search needs) (λ c. search needs)
+    (tie.spec (λ c. search needs) (λ c. search needs) group-rules-requires (λ c. search needs) (λ c. search needs)
     evaluate-requires (λ c. search needs) (λ c. search needs) answer-on-requires (λ c. search needs) returns
     (λ c. search needs) returns-2)

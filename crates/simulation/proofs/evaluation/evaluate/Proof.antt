@@ -10,12 +10,12 @@ use Rattle.simulation.proofs.evaluation.evaluate.Statement.{statement}
 use Rattle.simulation.proofs.evaluation.evaluate.Tie as tie
 
 abbrev Inv-loop : tie.InvT-loop
-Inv-loop size ranks rows head next b stack₀ height₀ i₀ stack height i =
+Inv-loop size ranks rows first order b stack₀ height₀ i₀ stack height i =
     (i ≤ length b) × (length stack ≡ length stack₀)
     × Reading (rulesIn ranks rows (size .rules)) (take (size .symbols) ranks) b stack height i
 
 abbrev μ-loop : tie.MeasureT-loop
-μ-loop size ranks rows head next b stack₀ height₀ i₀ stack height i = length b - i
+μ-loop size ranks rows first order b stack₀ height₀ i₀ stack height i = length b - i
 
 abbrev start : tie.At-loop Inv-loop μ-loop → tie.Start Inv-loop μ-loop
 start c = c .before .before .before .before .before .before .before
@@ -28,8 +28,7 @@ step-requires c κs =
     let l = c .before .before .before in
     let s = start l in
     let (_, same, r) = l .loop .inv in
-    let (few, room) = s .pre .1 in
-    (s .pre .0, (few, (r .low, λ h next low. rw same (room h (omega (arith, next, r .few)) low))))
+    (s .pre .0, (r .low, λ h next low. rw same (s .pre .1 h (omega (arith, next, r .few)) low)))
 
 returns : tie.Need-returns Inv-loop μ-loop
 returns c =

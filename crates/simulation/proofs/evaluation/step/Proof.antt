@@ -13,7 +13,7 @@ abbrev start : tie.After-struct-known → tie.Start
 start c = c .before .before .before .before .before .before
 
 room : (c : tie.After-struct-known) → start c .args .size .symbols ≤ length (start c .args .ranks .now)
-room c = omega (arith, start c .pre .0 .ranks-room, start c .pre .1 .0)
+room c = omega (arith, start c .pre .0 .ranks-room, start c .pre .0 .symbols)
 
 returns : tie.Need-returns
 unfolding heightOf
@@ -35,13 +35,13 @@ returns-3 c = λ trees high holds.
 -- The node's own entry has room.
 fits : (s : tie.Start) (rank : ℕ) → s .args .height - rank < 1024
     → 4 * (s .args .height - rank + 1) ≤ length (s .args .stack .now)
-fits s rank few = s .pre .1 .1 .1 _ (omega arith) (omega arith)
+fits s rank few = s .pre .1 .1 _ (omega arith) (omega arith)
 
 targets-requires : tie.Need-targets-requires
 targets-requires c κs =
     let s = start (c .before .before .before .before .before) in
-    let (low, fit) = s .pre .1 .1 in
-    (s .pre .0, (omega (arith, s .pre .1 .0), omega (arith, fit (s .args .height) (omega arith) low)))
+    let (low, fit) = s .pre .1 in
+    (s .pre .0, (omega arith, omega (arith, fit (s .args .height) (omega arith) low)))
 
 put-entry-requires : tie.Need-put-entry-requires
 put-entry-requires c κs =

@@ -1,6 +1,6 @@
 -- Where the table is not refused and the room suffices, the relation's words are written and their bits counted.
 use Prim.Native.Nat.{_≤_}
-use mathlib.Core.Path.{_≡_, ap, _∙_}
+use mathlib.Core.Path.{_≡_, sym, ap, _∙_}
 use native.Mathlib.Omega.{arith}
 use lib.ListN.{length}
 use borrow.Author.Needs.{needs}
@@ -11,6 +11,7 @@ use Rattle.simulation.specs.Words.{relationWords}
 use Rattle.simulation.proofs.RelationWords.{length-relation}
 use Rattle.simulation.proofs.Queries.{states-few, rules-few, states-are, rows-ranged, relation-is, rounds-are}
 use Rattle.simulation.proofs.Queries.{refused-judged, query-refused, query-short, query-written}
+use Rattle.simulation.proofs.Touching.{zero-words}
 use Rattle.simulation.proofs.query.relate.Statement.{statement}
 use Rattle.simulation.proofs.query.relate.Tie as tie
 
@@ -40,37 +41,37 @@ returns c =
 all-states-requires : tie.Need-all-states-requires
 all-states-requires c κs = few (c .before)
 
-simulate-requires : tie.Need-simulate-requires
-simulate-requires c κs =
-    let h = held (c .before .before .before .before) in
-    ((states-few _ _ _ _ _ h, rules-few _ _ _ _ _ h), rows-ranged _ _ _ _ _ h)
+simulate-into-requires : tie.Need-simulate-into-requires
+simulate-into-requires c κs =
+    let h = held (c .before .before .before .before .before) in
+    ((states-few _ _ _ _ _ h, rules-few _ _ _ _ _ h), (rows-ranged _ _ _ _ _ h, λ i. zero-words i))
 
-abbrev at-table : tie.After-simulate → tie.After-known-told2
-at-table s = s .before .before .before .before .before
+abbrev at-table : tie.After-simulate-into → tie.After-known-told2
+at-table s = s .before .before .before .before .before .before
 
-relation-words : (s : tie.After-simulate)
-    → s .simulate .result .words ≡ relationWords (simulationOf (held (at-table s) .automaton))
+relation-words : (s : tie.After-simulate-into)
+    → s .simulate-into .last .1 .1 .1 .1 .1 .0 ≡ relationWords (simulationOf (held (at-table s) .automaton))
 relation-words s =
-    rw (s .before .before .before .all-states .ensures) at (s .simulate .ensures .1)
+    rw (s .before .before .before .before .all-states .ensures) at (s .simulate-into .ensures .1)
     ∙ ap relationWords (relation-is _ _ _ _ _ (held (at-table s)))
 
-rounds-answered : (s : tie.After-simulate) → s .simulate .result .rounds ≡ roundsOf (held (at-table s) .automaton)
+rounds-answered : (s : tie.After-simulate-into) → s .simulate-into .result ≡ roundsOf (held (at-table s) .automaton)
 rounds-answered s =
-    rw (s .before .before .before .all-states .ensures) at (s .simulate .ensures .0)
+    rw (s .before .before .before .before .all-states .ensures) at (s .simulate-into .ensures .0)
     ∙ rounds-are _ _ _ _ _ (held (at-table s))
 
-words-all : (s : tie.After-simulate) → length (s .simulate .result .words) ≡ 1024
+words-all : (s : tie.After-simulate-into) → length (s .simulate-into .last .1 .1 .1 .1 .1 .0) ≡ 1024
 words-all s = ap length (relation-words s) ∙ length-relation _
 
 put-rows-requires : tie.Need-put-rows-requires
 put-rows-requires c κs =
-    let s = c .before .before .before .before in
+    let s = c .before .before in
     let low = few (at-table s) in
     ((low, omega (arith, words-all s)), omega arith)
 
 count-pairs-requires : tie.Need-count-pairs-requires
 count-pairs-requires c κs =
-    let s = c .before .before .before .before .before .before .before .before .before .before in
+    let s = c .before .before .before .before .before .before in
     let low = few (at-table s) in
     (low, omega (arith, words-all s))
 
@@ -81,14 +82,15 @@ returns-2 c =
 
 returns-3 : tie.Need-returns-3
 returns-3 c =
-    let s = c .before .before .before .before .before .before .before .before .before .before .before in
+    let s = c .before .before .before .before .before .before .before in
     let h = held (at-table s) in
     query-written _ _ (h .automaton) (h .well-formed) (h .judged) _ _ _ _ _ (states-are _ _ _ _ _ h) (omega arith)
     (relation-words s) (rounds-answered s)
-    (c .before .before .before .before .before .before .put-rows .ensures) (c .count-pairs .ensures)
+    (c .before .before .before .before .put-rows .ensures) (c .count-pairs .ensures)
 
 pub relate-spec : {M : Type 1} → statement M
 relate-spec =
     tie.close
     (tie.spec (λ c κs. search needs) (λ c. search needs) (λ c. search needs) mul-if1 returns
-    all-states-requires simulate-requires put-rows-requires count-pairs-requires returns-2 (λ c. search needs) returns-3)
+    all-states-requires simulate-into-requires (λ c. sym (words-all (c .before))) put-rows-requires
+    (λ c. sym (words-all (c .before .before .before .before .before .before))) count-pairs-requires returns-2 (λ c. search needs) returns-3)

@@ -1,50 +1,13 @@
--- `simulation::rounds::simulate` meets its contract: the rules are chained, and the rounds do the rest.
-use borrow.Author.Needs.{needs}
-use native.Mathlib.Omega.{arith}
-use native.Mathlib.Nat.{add-zero}
-use mathlib.Core.Path.{_≡_}
-use lib.ListN.{length}
-use Rattle.simulation.proofs.Ranged.{target-low}
+-- `simulation::rounds::simulate` meets its contract.
 use Rattle.simulation.proofs.Touching.{zero-words}
 use Rattle.simulation.proofs.rounds.simulate.Statement.{statement}
 use Rattle.simulation.proofs.rounds.simulate.Tie as tie
 
-chain-rules-requires : tie.Need-chain-rules-requires
-chain-rules-requires c κs =
-    let s = c .before .before .before in
-    let few = s .pre .0 .1 in
-    let long : length (s .args .rows .now) ≡ 10240 = c .before .before .chain-rules-arg .given .0 in
-    ((few, (omega arith, omega arith)), ((λ i h. rw add-zero (s .pre .1 i h .symbol)), (omega arith, few)))
-
-chain-rules-requires-2 : tie.Need-chain-rules-requires-2
-chain-rules-requires-2 c κs =
-    let s = c .before .before .before .before .before .before .before .before .before in
-    let few = s .pre .0 .1 in
-    let long : length (s .args .rows .now) ≡ 10240 = c .before .before .chain-rules-arg2 .given .0 in
-    ((few, (omega arith, omega arith)), ((λ i h. target-low _ _ i (s .pre .1 i h)), (omega arith, few)))
-
-settle-requires : tie.Need-settle-requires
-settle-requires c κs =
-    let second = c .before .before .before .before .before .before .before in
-    let first = second .before .before .before .before .before .before in
-    let s = first .before .before .before .before in (
-      s .pre .0 .0,
-      (
-        record {
-          count = s .pre .0 .1;
-          ranged = s .pre .1;
-          symbols = first .chain-rules .ensures;
-          targets = second .chain-rules2 .ensures;
-        },
-        λ i. zero-words i,
-      ),
-    )
+simulate-into-requires : tie.Need-simulate-into-requires
+simulate-into-requires c κs = let p = c .before .pre in (p .0, (p .1, λ i. zero-words i))
 
 returns : tie.Need-returns
-returns c = c .settle .ensures
+returns c = c .simulate-into .ensures
 
 pub simulate-spec : {M : Type 1} → statement M
-simulate-spec =
-    tie.close
-    (tie.spec (λ c. search needs) (λ c. search needs) chain-rules-requires (λ c. search needs) (λ c. search needs)
-    chain-rules-requires-2 settle-requires returns)
+simulate-spec = tie.close (tie.spec simulate-into-requires returns)
