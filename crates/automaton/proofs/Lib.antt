@@ -1,6 +1,7 @@
 pub mod Examples
 pub mod Elements
 pub mod Keeping
+pub mod Distinctness
 pub mod Opening
 pub mod Answered
 pub mod Fields
@@ -8,6 +9,7 @@ pub mod Scanning
 pub mod Records
 pub mod Inversion
 pub mod Causes
+pub mod Leaving
 pub mod Judging
 pub mod Encoding
 pub mod StateSets

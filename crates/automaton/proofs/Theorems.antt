@@ -1,6 +1,6 @@
 -- What holds of reading, stated over the definitions of specs/ alone. Each theorem is proved in the file that its body names.
 use Prim.Native.Nat.{ℕ, _≤_, _<_}
-use mathlib.Core.Path.{_≡_, subst}
+use mathlib.Core.Path.{_≡_, refl, subst}
 use mathlib.Core.List.{List, _++_}
 use mathlib.Core.Bool.{false, not, _&&_, _||_}
 use lib.ListN.{length, getD}
@@ -9,11 +9,12 @@ use Rattle.automaton.specs.Automaton.{Automaton, WellFormed}
 use Rattle.automaton.specs.Read.{found, refused}
 use Rattle.automaton.specs.Table.{judge, encode}
 use Rattle.automaton.specs.StateSet.{member, emptySet, withState, withoutState, unionOf, setOf}
-use Rattle.automaton.specs.Decoded.{sizeOf, rows, automatonIn, Decodes}
+use Rattle.automaton.specs.Decoded.{sizeOf, rows, automatonIn, ranksAfter, rowsAfter, written, writtenOver, Decodes}
 use Rattle.automaton.specs.declared.decoding.Decoded.{Decoded}
 use Rattle.automaton.specs.declared.table.Size.{Size}
 use Rattle.automaton.specs.declared.table.Judged.the-variants.{Table}
 use Rattle.automaton.proofs.Causes as causes
+use Rattle.automaton.proofs.Leaving as leaving
 use Rattle.automaton.proofs.Encoding as encoding
 use Rattle.automaton.proofs.StateSets as sets
 use Rattle.automaton.proofs.Meaning as meaning
@@ -58,6 +59,15 @@ decoded-writable = meaning.decoded-writable
 pub decoded-encodes : (b : List ℕ) (r : Decoded) (size : Size) (ranks ranks′ cells cells′ : List ℕ) → ((i : ℕ) → getD b i 0 < 256)
     → Decodes b r ranks ranks′ cells cells′ → r .judged ≡ Table size → encode (automatonIn size (r .finals .words) ranks′ cells′) ≡ b
 decoded-encodes = meaning.decoded-encodes
+
+-- Decoding a table that is refused leaves both arrays, and writing with too little room the output.
+pub decoding-leaves : (b ranks cells : List ℕ) (cause : ℕ) → judge b ≡ refused cause
+    → (ranksAfter (judge b) ranks ≡ ranks) × (rowsAfter (judge b) cells ≡ cells)
+unfolding ranksAfter rowsAfter
+decoding-leaves b ranks cells cause e = rw e (refl, refl)
+
+pub writing-leaves : (bytes out : List ℕ) (cause : ℕ) → written bytes out ≡ refused cause → writtenOver bytes out ≡ out
+writing-leaves = leaving.written-keeps
 
 -- The members of the empty set, of a set with a state, of a set without one, and of a union.
 pub empty-members : (r : ℕ) → r < 256 → member emptySet r ≡ false

@@ -1,6 +1,6 @@
--- Lists of numbers: tests of all elements, rising lists, ranges.
+-- Lists: what holds of all elements, rising lists, lists without repeats, ranges.
 use Prim.Native.Nat.{ℕ, zero, suc, _<_}
-use mathlib.Core.List.{List, [], _∷_}
+use mathlib.Core.List.{List, [], _∷_, List·Memᴰ}
 use mathlib.Core.Bool.{Bool, true, false, cond, _&&_}
 use lib.Dec.{ltb}
 
@@ -14,7 +14,12 @@ pub data Rising : List ℕ → Type 0 where
   single : {a : ℕ} → Rising (a ∷ [])
   step : {a b : ℕ} {xs : List ℕ} → a < b → Rising (b ∷ xs) → Rising (a ∷ (b ∷ xs))
 
--- The same two as tests.
+-- No element stands twice.
+pub data Distinct {A : Type 0} : List A → Type 0 where
+  bare : Distinct []
+  new : {x : A} {xs : List A} → (List·Memᴰ x xs → ⊥) → Distinct xs → Distinct (x ∷ xs)
+
+-- The first two as tests.
 unfoldable pub all : (ℕ → Bool) → List ℕ → Bool
 all test [] = true
 all test (x ∷ xs) = test x && all test xs

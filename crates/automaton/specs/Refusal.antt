@@ -1,19 +1,19 @@
 -- Document 01's number for each refusal.
 use Prim.Native.Nat.{ℕ}
 use Rattle.automaton.specs.declared.refusal.Refusal.{Refusal}
-use Rattle.automaton.specs.declared.refusal.Refusal.the-variants.{Broken, Kind, Length, Limit, Range, Order, Count, Tree, Symbol, Shape, Bound, State, Room}
+use Rattle.automaton.specs.declared.refusal.Refusal.the-variants.{BrokenRecord, WrongKind, WrongLength, AboveLimit, OutOfRange, FinalsOutOfOrder, WrongRuleCount, NotATree, UnknownSymbol, Unbalanced, TreeAboveLimit, UnknownState, ShortOutput}
 
 abbrev pub numberOf : Refusal → ℕ
-numberOf Broken = 1
-numberOf Kind = 2
-numberOf Length = 3
-numberOf Limit = 4
-numberOf Range = 5
-numberOf Order = 6
-numberOf Count = 7
-numberOf Tree = 8
-numberOf Symbol = 9
-numberOf Shape = 10
-numberOf Bound = 11
-numberOf State = 12
-numberOf Room = 13
+numberOf BrokenRecord = 1
+numberOf WrongKind = 2
+numberOf WrongLength = 3
+numberOf AboveLimit = 4
+numberOf OutOfRange = 5
+numberOf FinalsOutOfOrder = 6
+numberOf WrongRuleCount = 7
+numberOf NotATree = 8
+numberOf UnknownSymbol = 9
+numberOf Unbalanced = 10
+numberOf TreeAboveLimit = 11
+numberOf UnknownState = 12
+numberOf ShortOutput = 13

@@ -23,14 +23,14 @@ pub fn open(t: &[u8]) -> Opened
         return Opened::End;
     }
     if t.len() < 6 {
-        return Opened::Refused(Refusal::Broken);
+        return Opened::Refused(Refusal::BrokenRecord);
     }
     let length = number4(t);
     if length < 2 {
-        return Opened::Refused(Refusal::Broken);
+        return Opened::Refused(Refusal::BrokenRecord);
     }
     if t.len() - 4 < length {
-        return Opened::Refused(Refusal::Broken);
+        return Opened::Refused(Refusal::BrokenRecord);
     }
     Opened::Record {
         kind: number2(t, 4),

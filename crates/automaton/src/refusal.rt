@@ -4,31 +4,31 @@ ghost use Rattle.automaton.specs.Refusal.{numberOf};
 
 pub enum Refusal {
     // 1: what is left holds no whole record, or its length is below 2.
-    Broken,
+    BrokenRecord,
     // 2: a record of another kind than the one that is due, or a table that ends before its third record.
-    Kind,
+    WrongKind,
     // 3: a body's length differs from the layout.
-    Length,
+    WrongLength,
     // 4: states, symbols, rules or a rank above its limit.
-    Limit,
+    AboveLimit,
     // 5: a symbol or a state of a table not below their number.
-    Range,
+    OutOfRange,
     // 6: final states that do not strictly increase.
-    Order,
+    FinalsOutOfOrder,
     // 7: a rule too many, or too few.
-    Count,
+    WrongRuleCount,
     // 8: a tree that is not one whole record of kind 16, or has an odd body.
-    Tree,
+    NotATree,
     // 9: a tree's symbol not below the number of symbols.
-    Symbol,
+    UnknownSymbol,
     // 10: a node with fewer trees before it than its rank, or bytes that do not end with one tree.
-    Shape,
+    Unbalanced,
     // 11: too many nodes, or too many trees waiting.
-    Bound,
+    TreeAboveLimit,
     // 12: a state number in a query not below the number of states.
-    State,
+    UnknownState,
     // 13: the output is shorter than the result.
-    Room,
+    ShortOutput,
 }
 
 // Document 01's number of a refusal.
@@ -36,18 +36,18 @@ pub fn number(c: Refusal) -> u32
     ensures { λ r. ⌜ r ≡ numberOf c ⌝ }
 {
     match c {
-        Refusal::Broken => 1,
-        Refusal::Kind => 2,
-        Refusal::Length => 3,
-        Refusal::Limit => 4,
-        Refusal::Range => 5,
-        Refusal::Order => 6,
-        Refusal::Count => 7,
-        Refusal::Tree => 8,
-        Refusal::Symbol => 9,
-        Refusal::Shape => 10,
-        Refusal::Bound => 11,
-        Refusal::State => 12,
-        Refusal::Room => 13,
+        Refusal::BrokenRecord => 1,
+        Refusal::WrongKind => 2,
+        Refusal::WrongLength => 3,
+        Refusal::AboveLimit => 4,
+        Refusal::OutOfRange => 5,
+        Refusal::FinalsOutOfOrder => 6,
+        Refusal::WrongRuleCount => 7,
+        Refusal::NotATree => 8,
+        Refusal::UnknownSymbol => 9,
+        Refusal::Unbalanced => 10,
+        Refusal::TreeAboveLimit => 11,
+        Refusal::UnknownState => 12,
+        Refusal::ShortOutput => 13,
     }
 }

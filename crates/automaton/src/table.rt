@@ -56,7 +56,7 @@ pub fn due(t: &[u8], kind: u16, missing: Refusal) -> Place
         return Place::Refused(missing);
     };
     if k != kind {
-        return Place::Refused(Refusal::Kind);
+        return Place::Refused(Refusal::WrongKind);
     }
     Place::At(end)
 }
@@ -114,18 +114,18 @@ fn judge_rule(b: &[u8], n: usize, ranks: &[u8]) -> Verdict
     ensures { λ r. ⌜ verdictOf r ≡ passing (table.judgeRule n (now (ranks .entry)) (now (b .entry))) ⌝ }
 {
     if b.len() < 4 {
-        return Verdict::Refused(Refusal::Length);
+        return Verdict::Refused(Refusal::WrongLength);
     }
     let symbol = number2(b, 0) as usize;
     if symbol >= ranks.len() {
-        return Verdict::Refused(Refusal::Range);
+        return Verdict::Refused(Refusal::OutOfRange);
     }
     let rank = ranks[symbol] as usize;
     if b.len() != 4 + 2 * rank {
-        return Verdict::Refused(Refusal::Length);
+        return Verdict::Refused(Refusal::WrongLength);
     }
     if !all_below(&b[2..], n) {
-        return Verdict::Refused(Refusal::Range);
+        return Verdict::Refused(Refusal::OutOfRange);
     }
     Verdict::Passed
 }
@@ -135,7 +135,7 @@ fn next_rule(t: &[u8], n: usize, ranks: &[u8]) -> Place
     ensures { λ r. ⌜ placeOf r ≡ read._>>=_ (table.due 4 7 (now (t .entry)))
         (λ (end : ℕ). read._>>_ (table.judgeRule n (now (ranks .entry)) (bodyOf (now (t .entry)))) (read.found end)) ⌝ }
 {
-    let p = due(t, 4, Refusal::Count);
+    let p = due(t, 4, Refusal::WrongRuleCount);
     let Place::At(end) = p else {
         return p;
     };
@@ -152,9 +152,9 @@ fn judge_end(t: &[u8]) -> Verdict
     if t.len() == 0 {
         return Verdict::Passed;
     }
-    match due(t, 4, Refusal::Count) {
+    match due(t, 4, Refusal::WrongRuleCount) {
         Place::Refused(cause) => Verdict::Refused(cause),
-        Place::At(_) => Verdict::Refused(Refusal::Count),
+        Place::At(_) => Verdict::Refused(Refusal::WrongRuleCount),
     }
 }
 
@@ -180,19 +180,19 @@ fn judge_rules(t: &[u8], n: usize, ranks: &[u8], k: usize) -> Verdict
 fn judge_finals(t: &[u8], n: usize, ranks: &[u8], k: usize) -> Verdict
     ensures { λ r. ⌜ verdictOf r ≡ passing (table.judgeFinals n (now (ranks .entry)) k (now (t .entry))) ⌝ }
 {
-    let end = match due(t, 3, Refusal::Kind) {
+    let end = match due(t, 3, Refusal::WrongKind) {
         Place::Refused(cause) => return Verdict::Refused(cause),
         Place::At(end) => end,
     };
     let b = body(t);
     if b.len() % 2 != 0 {
-        return Verdict::Refused(Refusal::Length);
+        return Verdict::Refused(Refusal::WrongLength);
     }
     if !all_below(b, n) {
-        return Verdict::Refused(Refusal::Range);
+        return Verdict::Refused(Refusal::OutOfRange);
     }
     if !rising(b) {
-        return Verdict::Refused(Refusal::Order);
+        return Verdict::Refused(Refusal::FinalsOutOfOrder);
     }
     judge_rules(&t[end..], n, ranks, k)
 }
@@ -201,16 +201,16 @@ fn judge_finals(t: &[u8], n: usize, ranks: &[u8], k: usize) -> Verdict
 fn judge_ranks(t: &[u8], size: Size) -> Verdict
     ensures { λ r. ⌜ verdictOf r ≡ passing (table.judgeRanks (size .states) (size .symbols) (size .rules) (now (t .entry))) ⌝ }
 {
-    let end = match due(t, 2, Refusal::Kind) {
+    let end = match due(t, 2, Refusal::WrongKind) {
         Place::Refused(cause) => return Verdict::Refused(cause),
         Place::At(end) => end,
     };
     let ranks = body(t);
     if ranks.len() != size.symbols {
-        return Verdict::Refused(Refusal::Length);
+        return Verdict::Refused(Refusal::WrongLength);
     }
     if !all_ranks(ranks) {
-        return Verdict::Refused(Refusal::Limit);
+        return Verdict::Refused(Refusal::AboveLimit);
     }
     judge_finals(&t[end..], size.states, ranks, size.rules)
 }
@@ -219,23 +219,23 @@ fn judge_ranks(t: &[u8], size: Size) -> Verdict
 pub fn judge(t: &[u8]) -> Judged
     ensures { λ r. ⌜ judgementOf r ≡ sized (table.judge (now (t .entry))) ⌝ }
 {
-    let end = match due(t, 1, Refusal::Kind) {
+    let end = match due(t, 1, Refusal::WrongKind) {
         Place::Refused(cause) => return Judged::Refused(cause),
         Place::At(end) => end,
     };
     let b = body(t);
     if b.len() != 6 {
-        return Judged::Refused(Refusal::Length);
+        return Judged::Refused(Refusal::WrongLength);
     }
     let size = size_in(b);
     if size.states > 256 {
-        return Judged::Refused(Refusal::Limit);
+        return Judged::Refused(Refusal::AboveLimit);
     }
     if size.symbols > 256 {
-        return Judged::Refused(Refusal::Limit);
+        return Judged::Refused(Refusal::AboveLimit);
     }
     if size.rules > 1024 {
-        return Judged::Refused(Refusal::Limit);
+        return Judged::Refused(Refusal::AboveLimit);
     }
     match judge_ranks(&t[end..], size) {
         Verdict::Refused(cause) => Judged::Refused(cause),

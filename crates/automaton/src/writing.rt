@@ -220,7 +220,7 @@ pub fn write(
     let count = count_states(finals, n);
     let length = 24 + m + 2 * count + rules_length(ranks, rows, k);
     if out.len() < length {
-        return Written::Refused(Refusal::Room);
+        return Written::Refused(Refusal::ShortOutput);
     }
     put_size(out, size);
     put_ranks(out, 12, ranks, m);

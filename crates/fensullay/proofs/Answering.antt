@@ -10,7 +10,7 @@ use Rattle.automaton.specs.Read.{Read, found, refused}
 use Rattle.automaton.proofs.WrittenBytes.{over-copy}
 use Rattle.simulation.specs.Check.{acceptanceOf, Checks}
 use Rattle.simulation.specs.declared.checking.Checked.{Checked}
-use Rattle.fensullay.specs.Exports.{codeOf, verdictOf, numbersAfter, ifRoom, countsIn, countsNumbers, checkCode, checkCounts, compareCode, ComparesInto}
+use Rattle.fensullay.specs.Exports.{codeOf, yesNoCodeOf, numbersAfter, ifRoom, countsIn, countsNumbers, checkCode, checkCounts, compareCode, ComparesInto}
 
 pub enough-room : {A : Type 0} (need : ℕ) (array : List ℕ) (enough short : A) → need ≤ length array
     → enough ≡ ifRoom need array enough short
@@ -38,11 +38,11 @@ found-in need numbers numbersOf x a after h e put =
 
 -- A check's answer and counts.
 pub checked-in : (counts table tree after : List ℕ) (r : Checked) (code : ℕ) → 3 ≤ length counts → Checks (countsIn counts) table tree r
-    → after ≡ countsNumbers (r .counts) ++ drop 3 counts → code ≡ verdictOf (acceptanceOf (r .answer))
+    → after ≡ countsNumbers (r .counts) ++ drop 3 counts → code ≡ yesNoCodeOf (acceptanceOf (r .answer))
     → (code ≡ checkCode counts table tree) × (after ≡ checkCounts counts table tree)
 unfolding checkCode checkCounts
 checked-in counts table tree after r code h checks put answer = (
-  answer ∙ ap verdictOf (checks .answer) ∙ enough-room 3 counts _ _ h,
+  answer ∙ ap yesNoCodeOf (checks .answer) ∙ enough-room 3 counts _ _ h,
   put ∙ rw (checks .counts-after) (enough-room 3 counts _ _ h),
 )
 

@@ -1,4 +1,4 @@
--- That the numbers which `codeOf` and `verdictOf` give for a reading, and `ifRoom` for an array, mean what specs/Means.antt says.
+-- That the numbers which `codeOf` and `yesNoCodeOf` give for a reading, and `ifRoom` for an array, mean what specs/Means.antt says.
 use Prim.Native.Nat.{ℕ, _≤_}
 use native.Mathlib.Omega.{arith}
 use mathlib.Core.Path.{_≡_, refl, sym, ap}
@@ -11,8 +11,8 @@ use borrow.Author.Tests.{leb-true, leb-false}
 use Rattle.automaton.specs.Read.{Read, found, refused}
 use Rattle.automaton.proofs.Inversion.{refused≢found}
 use Rattle.automaton.proofs.Causes.{Causes, finds, refuses}
-use Rattle.fensullay.specs.Exports.{codeOf, verdictOf, ifRoom}
-use Rattle.fensullay.specs.Means.{UpTo, UpToOr, Means, WorkMeans, VerdictMeans}
+use Rattle.fensullay.specs.Exports.{codeOf, yesNoCodeOf, ifRoom}
+use Rattle.fensullay.specs.Means.{UpTo, UpToOr, Means, WorkMeans, YesNoMeans}
 
 -- What a number means, without the array.
 record Codes {A : Type 0} (Cause : ℕ → Type 0) (x : Read A) (Done No : Type 0) (code : ℕ) : Type 0 where
@@ -89,21 +89,21 @@ module _ {Cause : ℕ → Type 0} (among : (cause : ℕ) → Cause cause → UpT
     only = inr (inl p);
   }
 
-  verdict-codes : (x : Read Bool) → Causes Cause x → Codes Cause x (x ≡ found true) (x ≡ found false) (verdictOf x)
-  unfolding verdictOf
-  verdict-codes (found true) p = record {
+  yes-no-codes : (x : Read Bool) → Causes Cause x → Codes Cause x (x ≡ found true) (x ≡ found false) (yesNoCodeOf x)
+  unfolding yesNoCodeOf
+  yes-no-codes (found true) p = record {
     done = (λ h. refl, λ h. refl);
     refusal = λ cause q. neither (λ h. omega (arith, among cause q)) found≢refused;
     no = neither (omega arith) (λ h. true≢false (cc));
     only = inl refl;
   }
-  verdict-codes (found false) p = record {
+  yes-no-codes (found false) p = record {
     done = neither (omega arith) (λ h. false≢true (cc));
     refusal = λ cause q. neither (λ h. omega (arith, among cause q)) found≢refused;
     no = (λ h. refl, λ h. refl);
     only = inr (inr refl);
   }
-  verdict-codes (refused c) (refuses p) = record {
+  yes-no-codes (refused c) (refuses p) = record {
     done = neither (λ h. omega (arith, among c p)) refused≢found;
     refusal = λ cause q. same-cause c cause;
     no = neither (λ h. omega (arith, among c p)) refused≢found;
@@ -115,6 +115,6 @@ module _ {Cause : ℕ → Type 0} (among : (cause : ℕ) → Cause cause → UpT
       → WorkMeans Cause need array x (ifRoom need array (codeOf x) 100)
   work-means need array c = with-room need array (work-codes c)
 
-  pub verdict-means : (x : Read Bool) (need : ℕ) (array : List ℕ) → Causes Cause x
-      → VerdictMeans Cause need array x (ifRoom need array (verdictOf x) 100)
-  verdict-means x need array c = with-room need array (verdict-codes x c)
+  pub yes-no-means : (x : Read Bool) (need : ℕ) (array : List ℕ) → Causes Cause x
+      → YesNoMeans Cause need array x (ifRoom need array (yesNoCodeOf x) 100)
+  yes-no-means x need array c = with-room need array (yes-no-codes x c)

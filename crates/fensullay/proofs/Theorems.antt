@@ -9,25 +9,26 @@ use Rattle.automaton.specs.Read.{Read, found, refused, mapRead}
 use Rattle.automaton.specs.Table.{judge}
 use Rattle.automaton.specs.Decoded.{sized, written}
 use Rattle.automaton.proofs.Causes.{causes, table-causes}
+use Rattle.automaton.proofs.Theorems.{writing-leaves}
 use Rattle.simulation.specs.Check.{acceptance}
 use Rattle.simulation.specs.Query.{relationQuery, pairQuery}
 use Rattle.simulation.proofs.Causes.{acceptance-causes, relation-causes, pair-causes}
-use Rattle.reduction.specs.Reduce.{reductionOf, reduction}
+use Rattle.simulation.proofs.Theorems.{relation-leaves}
+use Rattle.reduction.specs.Reduce.{reduction, reductionAfter}
 use Rattle.reduction.specs.Demand3.{Demand3}
 use Rattle.reduction.specs.Report.{report}
 use Rattle.reduction.specs.declared.reducing.Reduction.{Reduction}
-use Rattle.reduction.specs.declared.reducing.Reduced.the-variants.{Table}
 use Rattle.reduction.proofs.Rewritten.{reduction-causes}
-use Rattle.reduction.proofs.Theorems.{demand-3}
+use Rattle.reduction.proofs.Theorems.{reduction-leaves, demand-3}
 use Rattle.reduction.proofs.Reporting as reporting
-use Rattle.fensullay.specs.Exports.{codeOf, numbersAfter, sizeNumbers, judgeCode, judgeNumbers, checkCode, checkCounts, compareCode}
+use Rattle.fensullay.specs.Exports.{codeOf, numbersAfter, sizeNumbers, judgeCode, judgeNumbers, checkCode, checkCounts, compareCode, ComparesInto}
 use Rattle.fensullay.specs.Exports.{relationNumbers, relateCode, relateNumbers, relateOut}
 use Rattle.fensullay.specs.Exports.{reductionNumbers, reduceCode, reduceNumbers, reduceOut}
 use Rattle.fensullay.specs.Exports.{lengthNumbers, reportCode, reportNumbers, reportOut}
-use Rattle.fensullay.specs.Means.{UpTo, UpToOr, Just, WorkMeans, VerdictMeans}
+use Rattle.fensullay.specs.Means.{UpTo, UpToOr, Just, WorkMeans, YesNoMeans}
 use Rattle.fensullay.proofs.Answering.{enough-room, too-few}
-use Rattle.fensullay.proofs.Means.{up-to-or, work-means, verdict-means}
-use Rattle.fensullay.proofs.Leaving.{array-left, numbers-left, written-keeps, relation-keeps, reduction-keeps}
+use Rattle.fensullay.proofs.Means.{up-to-or, work-means, yes-no-means}
+use Rattle.fensullay.proofs.Leaving.{array-left, numbers-left}
 
 code-sized : (x : Read Automaton) → codeOf (sized x) ≡ codeOf x
 unfolding codeOf sized mapRead
@@ -40,9 +41,9 @@ unfolding judgeCode
 judge-means table numbers = rw code-sized (work-means (λ cause p. omega arith) 3 numbers (table-causes table))
 
 -- A check refuses by 1 to 11.
-pub check-means : (counts table tree : List ℕ) → VerdictMeans (UpTo 11) 3 counts (acceptance table tree) (checkCode counts table tree)
+pub check-means : (counts table tree : List ℕ) → YesNoMeans (UpTo 11) 3 counts (acceptance table tree) (checkCode counts table tree)
 unfolding checkCode
-check-means counts table tree = verdict-means (λ cause p. omega arith) _ 3 counts (acceptance-causes table tree)
+check-means counts table tree = yes-no-means (λ cause p. omega arith) _ 3 counts (acceptance-causes table tree)
 
 -- A relation query refuses by 1 to 7, or 13.
 pub relate-means : (table out numbers : List ℕ) → WorkMeans (UpToOr 7 13) 2 numbers (relationQuery table out) (relateCode table out numbers)
@@ -51,9 +52,9 @@ relate-means table out numbers = work-means (up-to-or 7 13 (omega arith) (omega 
 
 -- A pair query refuses by 1 to 7, or 12.
 pub compare-means : (table : List ℕ) (q r : ℕ) (numbers : List ℕ)
-    → VerdictMeans (UpToOr 7 12) 1 numbers (pairQuery table q r) (compareCode table q r numbers)
+    → YesNoMeans (UpToOr 7 12) 1 numbers (pairQuery table q r) (compareCode table q r numbers)
 unfolding compareCode
-compare-means table q r numbers = verdict-means (up-to-or 7 12 (omega arith) (omega arith)) _ 1 numbers (pair-causes table q r)
+compare-means table q r numbers = yes-no-means (up-to-or 7 12 (omega arith) (omega arith)) _ 1 numbers (pair-causes table q r)
 
 -- Reducing refuses by 1 to 7, or 13.
 pub reduce-means : (table out numbers : List ℕ) → WorkMeans (UpToOr 7 13) 6 numbers (reduction table out) (reduceCode table out numbers)
@@ -75,27 +76,32 @@ pub check-leaves : (counts table tree : List ℕ) → checkCode counts table tre
 unfolding checkCounts
 check-leaves counts table tree h = sym (too-few 3 counts _ counts (check-means counts table tree .short .0 h))
 
+-- A pair query that does not answer 101 leaves the numbers: `ComparesInto` is its promise.
+pub compare-leaves : (table : List ℕ) (q r : ℕ) (numbers : List ℕ) (code : ℕ) (numbers′ : List ℕ)
+    → ComparesInto table q r numbers code numbers′ → (code ≡ 101 → ⊥) → numbers′ ≡ numbers
+compare-leaves table q r numbers code numbers′ c = c .otherwise
+
 -- Where a relation query, reducing or the report does not answer 0, the numbers and the output are what they were.
 pub relate-leaves : (table out numbers : List ℕ) → (relateCode table out numbers ≡ 0 → ⊥)
     → (relateNumbers table out numbers ≡ numbers) × (relateOut table out numbers ≡ out)
 unfolding relateCode relateNumbers relateOut
 relate-leaves table out numbers h =
     let x = relationQuery table out in
-    (numbers-left 2 numbers x relationNumbers h, array-left 2 numbers x _ out (relation-keeps table out) h)
+    (numbers-left 2 numbers x relationNumbers h, array-left 2 numbers x _ out (relation-leaves table out) h)
 
 pub reduce-leaves : (table out numbers : List ℕ) → (reduceCode table out numbers ≡ 0 → ⊥)
     → (reduceNumbers table out numbers ≡ numbers) × (reduceOut table out numbers ≡ out)
 unfolding reduceCode reduceNumbers reduceOut
 reduce-leaves table out numbers h =
     let x = reduction table out in
-    (numbers-left 6 numbers x reductionNumbers h, array-left 6 numbers x _ out (reduction-keeps table out) h)
+    (numbers-left 6 numbers x reductionNumbers h, array-left 6 numbers x _ out (reduction-leaves table out) h)
 
 pub report-leaves : (input out numbers : List ℕ) → (reportCode input out numbers ≡ 0 → ⊥)
     → (reportNumbers input out numbers ≡ numbers) × (reportOut input out numbers ≡ out)
 unfolding reportCode reportNumbers reportOut
 report-leaves input out numbers h =
     let x = written (report input) out in
-    (numbers-left 1 numbers x lengthNumbers h, array-left 1 numbers x _ out (written-keeps (report input) out) h)
+    (numbers-left 1 numbers x lengthNumbers h, array-left 1 numbers x _ out (writing-leaves (report input) out) h)
 
 -- A report has at most 64 bytes.
 pub report-short : (input : List ℕ) → length (report input) ≤ 64
@@ -105,13 +111,13 @@ report-short = reporting.report-short
 pub reduced-demand-3 : (table out numbers out′ numbers′ : List ℕ) → ((i : ℕ) → getD table i 0 < 256)
     → reduceCode table out numbers ≡ 0 → numbers′ ≡ reduceNumbers table out numbers → out′ ≡ reduceOut table out numbers
     → (r : Reduction) × (numbers′ ≡ reductionNumbers r ++ drop 6 numbers) × Demand3 table out r (take (r .length) out′)
-unfolding reduceNumbers reduceOut numbersAfter reductionNumbers reductionOf
+unfolding reduceNumbers reduceOut numbersAfter reductionNumbers
 reduced-demand-3 table out numbers out′ numbers′ bytes code after over =
     let (enough, finding) = reduce-means table out numbers .done .0 code in
     let (r, e) = finding in (
       r,
       after ∙ sym (enough-room 6 numbers _ _ enough) ∙ rw e,
-      demand-3 table out out′ (Table r) (sym e) (over ∙ sym (enough-room 6 numbers _ _ enough)) bytes r refl,
+      rw (over ∙ sym (enough-room 6 numbers _ _ enough)) (demand-3 table out r bytes e),
     )
 
 -- Under demand 3 a check against either table answers the same number and leaves the same counts.

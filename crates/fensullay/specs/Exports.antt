@@ -23,10 +23,10 @@ codeOf (found a) = 0
 codeOf (refused cause) = cause
 
 -- Of a question: 0 for yes, 101 for no.
-unfoldable pub verdictOf : Read Bool → ℕ
-verdictOf (found true) = 0
-verdictOf (found false) = 101
-verdictOf (refused cause) = cause
+unfoldable pub yesNoCodeOf : Read Bool → ℕ
+yesNoCodeOf (found true) = 0
+yesNoCodeOf (found false) = 101
+yesNoCodeOf (refused cause) = cause
 
 -- An array for numbers or counts that has fewer elements than the call needs is the first thing found; the answer is 100 then.
 unfoldable pub ifRoom : {A : Type 0} → ℕ → List ℕ → A → A → A
@@ -55,7 +55,7 @@ unfoldable pub countsNumbers : Counts → List ℕ
 countsNumbers c = c .accepted ∷ c .rejected ∷ c .refused ∷ []
 
 unfoldable pub checkCode : List ℕ → List ℕ → List ℕ → ℕ
-checkCode counts table tree = ifRoom 3 counts (verdictOf (acceptance table tree)) 100
+checkCode counts table tree = ifRoom 3 counts (yesNoCodeOf (acceptance table tree)) 100
 
 unfoldable pub checkCounts : List ℕ → List ℕ → List ℕ → List ℕ
 checkCounts counts table tree =
@@ -76,7 +76,7 @@ relateOut table out numbers = ifRoom 2 numbers (relationAfter (judge table) out)
 
 -- The pair query: yes; or no, and the number of a rule of q that no rule of r matches.
 unfoldable pub compareCode : List ℕ → ℕ → ℕ → List ℕ → ℕ
-compareCode table q r numbers = ifRoom 1 numbers (verdictOf (pairQuery table q r)) 100
+compareCode table q r numbers = ifRoom 1 numbers (yesNoCodeOf (pairQuery table q r)) 100
 
 pub record NamesRule (table : List ℕ) (q r : ℕ) (numbers numbers′ : List ℕ) : Type 0 where
   pub automaton : Automaton

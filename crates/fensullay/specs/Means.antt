@@ -31,5 +31,5 @@ abbrev pub WorkMeans : {A : Type 0} → (ℕ → Type 0) → ℕ → List ℕ �
 WorkMeans {A} Cause need array x = Means Cause need array x ((a : A) × (x ≡ found a)) ⊥
 
 -- Of a question 0 means yes and 101 no.
-abbrev pub VerdictMeans : (ℕ → Type 0) → ℕ → List ℕ → Read Bool → ℕ → Type 0
-VerdictMeans Cause need array x = Means Cause need array x (x ≡ found true) (x ≡ found false)
+abbrev pub YesNoMeans : (ℕ → Type 0) → ℕ → List ℕ → Read Bool → ℕ → Type 0
+YesNoMeans Cause need array x = Means Cause need array x (x ≡ found true) (x ≡ found false)

@@ -6,11 +6,13 @@ use mathlib.Core.List.{List, [], _∷_, map, List·Memᴰ, List·Memᴰ·head, L
 use mathlib.Core.Bool.{Bool, true, false, not, true≢false}
 use lib.Dec.{eqb}
 use borrow.Author.Tests.{eq-eqb, eqb-true}
+use Rattle.automaton.specs.Lists.{Distinct}
 use Rattle.automaton.specs.Automaton.{Rule, Automaton, WellFormed}
 use Rattle.automaton.proofs.Keeping.{keep-in, keep-out}
+use Rattle.automaton.proofs.Distinctness.{keep-distinct}
 use Rattle.simulation.specs.Tree.{Tree}
 use Rattle.simulation.specs.Run.{Reaches, Accepts, Useful}
-use Rattle.simulation.specs.Simulation.{Each, none, also, Simulates, matches}
+use Rattle.simulation.specs.Simulation.{Each, none, also, Simulates, matchedBy}
 use Rattle.simulation.specs.Query.{simulationOf}
 use Rattle.simulation.proofs.Search.{and-true-in, and-true-out, any-in, any-out}
 use Rattle.simulation.proofs.Refinement.{Within, paired-each, each-paired}
@@ -19,12 +21,11 @@ use Rattle.simulation.proofs.Preorder.{preorder-simulates, preorder-states}
 use Rattle.reduction.specs.Steps.{Stage, trimmed, below, representative, quotient, dominatedBy, dominated, pruned, kept, restricted}
 use Rattle.reduction.specs.Steps.{renamed, sameStates, position, numbered}
 use Rattle.reduction.specs.Reduce.{shortened, reduce}
-use Rattle.reduction.specs.Irreducible.{Distinct, Irreducible}
+use Rattle.reduction.specs.Irreducible.{Irreducible}
 use Rattle.reduction.specs.Inner.{Sound}
 use Rattle.reduction.proofs.Members.{among-in, among-out, same-states-out, same-states-refl}
 use Rattle.reduction.proofs.Trimming.{productive-reached, reached-productive, trimmed-sound, trimmed-reaches, reaches-trimmed}
 use Rattle.reduction.proofs.Quotient as quot
-use Rattle.reduction.proofs.Firsts.{keep-distinct}
 use Rattle.reduction.proofs.Pruning as pruning
 use Rattle.reduction.proofs.Restricting as restricting
 use Rattle.reduction.proofs.Numbering as numbering
@@ -332,7 +333,7 @@ module _ (A : Automaton) (w : WellFormed A) where
 
   dominates-kept : (u v : Rule) → List·Memᴰ u (stage4 .rules) → IsKept (u .target) → List·Memᴰ v (stage4 .rules) → IsKept (v .target)
       → dominatedBy (simulationOf (reduce A)) (renamed place u) (renamed place v) ≡ true → dominatedBy (below (trimmed A)) u v ≡ true
-  unfolding dominatedBy renamed matches
+  unfolding dominatedBy renamed matchedBy
   dominates-kept u v mu ku mv kv h =
       let a = and-true-out (eqb (place (u .target)) (place (v .target))) _ h in
       let b = and-true-out _ (not (sameStates (map place (u .children)) (map place (v .children)))) (a .1) in

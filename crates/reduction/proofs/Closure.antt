@@ -36,23 +36,23 @@ keep-grows {A} f g (x ∷ xs) h =
 
 module _ (test : List ℕ → ℕ → Bool) (states : List ℕ) where
   found-least : (P : ℕ → Type 0)
-      → ((found : List ℕ) → ((p : ℕ) → List·Memᴰ p found → P p) → (q : ℕ) → List·Memᴰ q states → test found q ≡ true → P q)
+      → ((earlier : List ℕ) → ((p : ℕ) → List·Memᴰ p earlier → P p) → (q : ℕ) → List·Memᴰ q states → test earlier q ≡ true → P q)
       → (times q : ℕ) → List·Memᴰ q (foundIn test states times) → P q
   unfolding foundIn
   found-least P step zero q m = absurd (List·Memᴰ·not-nil m)
   found-least P step (suc times) q m =
-      let found : List ℕ = foundIn test states times in
-      let k = keep-out (test found) states m in
-      step found (found-least P step times) q (k .0) (k .1)
+      let earlier : List ℕ = foundIn test states times in
+      let k = keep-out (test earlier) states m in
+      step earlier (found-least P step times) q (k .0) (k .1)
 
   pub closure-least : (P : ℕ → Type 0)
-      → ((found : List ℕ) → ((p : ℕ) → List·Memᴰ p found → P p) → (q : ℕ) → List·Memᴰ q states → test found q ≡ true → P q)
+      → ((earlier : List ℕ) → ((p : ℕ) → List·Memᴰ p earlier → P p) → (q : ℕ) → List·Memᴰ q states → test earlier q ≡ true → P q)
       → (q : ℕ) → List·Memᴰ q (closure test states) → P q
   unfolding closure
   closure-least P step = found-least P step (length states)
 
   pub closure-states : (q : ℕ) → List·Memᴰ q (closure test states) → List·Memᴰ q states
-  closure-states = closure-least (λ (q : ℕ). List·Memᴰ q states) (λ found h q m e. m)
+  closure-states = closure-least (λ (q : ℕ). List·Memᴰ q states) (λ earlier h q m e. m)
 
   found-rising : Rising states → (times : ℕ) → Rising (foundIn test states times)
   unfolding foundIn
@@ -103,12 +103,12 @@ module _ (test : List ℕ → ℕ → Bool) (states : List ℕ) where
     unfolding closure foundIn
     closure-fixed = go (settled-or-long (length states))
       where
-        found : List ℕ
-        found = foundIn test states (length states)
+        earlier : List ℕ
+        earlier = foundIn test states (length states)
 
-        go : (keep (test found) states ≡ found) ⊎ (length states < length (keep (test found) states)) → keep (test found) states ≡ found
+        go : (keep (test earlier) states ≡ earlier) ⊎ (length states < length (keep (test earlier) states)) → keep (test earlier) states ≡ earlier
         go (inl e) = e
-        go (inr l) = absurd (omega (arith, keep-shorter (test found) states))
+        go (inr l) = absurd (omega (arith, keep-shorter (test earlier) states))
 
     pub closure-closed : (q : ℕ) → List·Memᴰ q states → test (closure test states) q ≡ true → List·Memᴰ q (closure test states)
     closure-closed q m h = rw closure-fixed at (keep-in (test (closure test states)) m h)

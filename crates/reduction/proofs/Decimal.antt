@@ -9,7 +9,7 @@ use lib.ListN.{length, length-append}
 use lib.Dec.{ltb}
 use borrow.Author.Tests.{ltb-true, ltb-false}
 use Rattle.automaton.specs.Lists.{All, none, also}
-use Rattle.reduction.specs.Report.{decimalIn, decimal}
+use Rattle.reduction.specs.Report.{decimalIn, decimal, valueFrom, value, Numeral}
 
 -- What holds of one digit, and of one digit more, holds of all numbers.
 decimal-induction : (P : ℕ → List ℕ → Type 0) → ((v : ℕ) → v < 10 → P v ((48 + v) ∷ []))
@@ -26,21 +26,6 @@ decimal-induction P one more v = go (suc v) v (omega arith)
             → P v (cond t ((48 + v) ∷ []) (decimalIn digits (v / 10) ++ ((48 + v % 10) ∷ [])))
         test true e rest = one v (ltb-true v 10 e)
         test false e rest = let l = ltb-false v 10 e in more v (decimalIn digits (v / 10)) l (rest l)
-
--- The number that digits stand for, bytes 48 to 57.
-unfoldable pub valueFrom : ℕ → List ℕ → ℕ
-valueFrom high [] = high
-valueFrom high (d ∷ ds) = valueFrom (10 * high + (d - 48)) ds
-
-unfoldable pub value : List ℕ → ℕ
-value ds = valueFrom 0 ds
-
--- Digits that stand for v, at least one, and no zero in front.
-pub record Numeral (v : ℕ) (ds : List ℕ) : Type 0 where
-  pub reads : value ds ≡ v
-  pub digits : All (λ (d : ℕ). (48 ≤ d) × (d ≤ 57)) ds
-  pub some : 1 ≤ length ds
-  pub leading : (rest : List ℕ) → ds ≡ 48 ∷ rest → (v ≡ 0) × (rest ≡ [])
 
 value-last : (high : ℕ) (ds : List ℕ) (d : ℕ) → valueFrom high (ds ++ (d ∷ [])) ≡ 10 * valueFrom high ds + (d - 48)
 unfolding valueFrom

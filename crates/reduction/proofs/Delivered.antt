@@ -5,20 +5,20 @@ use mathlib.Core.Path.{_≡_, refl, sym, ap, _∙_}
 use mathlib.Core.List.{List}
 use lib.ListN.{length, take, getD}
 use Rattle.automaton.specs.Automaton.{Automaton, WellFormed}
+use Rattle.automaton.specs.Refusal.{numberOf}
 use Rattle.automaton.specs.Read.{found}
 use Rattle.automaton.specs.Table.{judge, encode}
 use Rattle.automaton.proofs.Theorems.{judged-well-formed, encode-judged, judge-encoded}
-use Rattle.simulation.specs.Check.{counted}
 use Rattle.reduction.specs.Steps.{numbered}
 use Rattle.reduction.specs.Reduce.{reduce, reductionOf, reduction, reductionAfter}
-use Rattle.reduction.specs.Demand3.{Again, Demand3}
+use Rattle.reduction.specs.Demand3.{Again, Demand3, MeetsDemand3}
 use Rattle.reduction.specs.declared.reducing.Reduction.{Reduction}
 use Rattle.reduction.specs.declared.reducing.Reduced.{Reduced}
-use Rattle.reduction.specs.declared.reducing.Reduced.the-variants.{Table}
+use Rattle.reduction.specs.declared.reducing.Reduced.the-variants.{Table, Refused}
 use Rattle.reduction.proofs.Counting.{reduce-well-formed, reduce-shorter}
 use Rattle.reduction.proofs.Agreement.{accepted-reduced, reduced-accepted, irreducible}
 use Rattle.reduction.proofs.Fixpoint.{irreducible-fixed}
-use Rattle.reduction.proofs.Rewritten.{answerFor, reduction-fits, after-fits, fits-reduction, written-bytes, reduction-judged, acceptance-same}
+use Rattle.reduction.proofs.Rewritten.{answerFor, reduction-fits, after-fits, fits-reduction, written-bytes, reduction-judged, reduction-keeps, acceptance-same}
 
 pub ranks-stay : (A : Automaton) → reduce A .ranks ≡ A .ranks
 unfolding reduce numbered
@@ -75,25 +75,22 @@ demand-3-from table out A bytes e fits =
       ranks = ranks-stay A;
       same-trees = λ t over. (accepted-reduced A w t, reduced-accepted A w t);
       same-answer = alike;
-      same-counts = λ counts tree. ap (counted counts) (alike tree);
-      same-check = λ counts tree c d h k. (
-        h .answer ∙ alike tree ∙ sym (k .answer),
-        h .counts-after ∙ ap (counted counts) (alike tree) ∙ sym (k .counts-after),
-      );
       irreducible = irreducible A w;
       again = again-from A w;
     }
 
-reduced-table : (table out : List ℕ) (r : Reduction) → ((i : ℕ) → getD table i 0 < 256) → reduction table out ≡ found r
+pub demand-3 : (table out : List ℕ) (r : Reduction) → ((i : ℕ) → getD table i 0 < 256) → reduction table out ≡ found r
     → Demand3 table out r (take (r .length) (reductionAfter (judge table) out))
-reduced-table table out r bytes h =
+demand-3 table out r bytes h =
     let (A, e) = reduction-judged table out r h in
     let fits = fits-reduction table out A e r h in
     let answer : r ≡ answerFor A = cc (h, reduction-fits table out A e fits) in
     rw (answer, written-bytes table out A e fits) (demand-3-from table out A bytes e fits)
 
-pub demand-3 : (table out after : List ℕ) (answer : Reduced) → reductionOf answer ≡ reduction table out
-    → after ≡ reductionAfter (judge table) out → ((i : ℕ) → getD table i 0 < 256)
-    → (r : Reduction) → answer ≡ Table r → Demand3 table out r (take (r .length) after)
-unfolding reductionOf
-demand-3 table out after answer h o bytes r e = rw o (reduced-table table out r bytes (cc (h, ap reductionOf e)))
+-- What the call ensures, from its equations.
+pub promised : (table out after : List ℕ) (answer : Reduced) → ((i : ℕ) → getD table i 0 < 256)
+    → (reductionOf answer ≡ reduction table out) × (after ≡ reductionAfter (judge table) out)
+    → (reductionOf answer ≡ reduction table out) × ((after ≡ reductionAfter (judge table) out) × MeetsDemand3 table out answer after)
+unfolding reductionOf MeetsDemand3
+promised table out after (Table r) bytes (h, o) = (h, (o, rw o (demand-3 table out r bytes (sym h))))
+promised table out after (Refused cause) bytes (h, o) = (h, (o, o ∙ reduction-keeps table out (numberOf cause) (sym h)))

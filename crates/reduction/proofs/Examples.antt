@@ -15,7 +15,7 @@ use Rattle.automaton.specs.Table.{encodeRule, encodeRules, encode}
 use Rattle.automaton.proofs.Examples.{rule, T, T-encoded, T-judged}
 use Rattle.simulation.specs.Tree.{any}
 use Rattle.simulation.proofs.Examples as simulation
-use Rattle.simulation.specs.Simulation.{related, paired, matches, matched, every, holds, refine}
+use Rattle.simulation.specs.Simulation.{related, paired, matchedBy, matched, every, survives, refine}
 use Rattle.simulation.specs.Simulation.{allPairs, relationAt, settle, rounds, relation}
 use Rattle.reduction.specs.Steps.{among, foundIn, closure, buildable, productive, namesOnly, trimmed, below, roundsIn, equivalent, firstOf}
 use Rattle.reduction.specs.Steps.{representative, renamed, sameStates, sameRule, firsts, quotient, dominatedBy, dominated, pruned}
@@ -55,14 +55,14 @@ whole = take-all 27417 (encode T) (omega (arith, T-encoded .0))
 report-of-T : reportOf (found T) ≡ fourLines
 unfolding reduce reductionRounds shortened numbered position restricted kept needed pruned dominated dominatedBy quotient firsts sameRule sameStates
     renamed representative firstOf equivalent roundsIn below trimmed namesOnly productive buildable closure foundIn among
-    relation relationAt rounds settle allPairs refine holds matched every matches paired related any from all keep
+    relation relationAt rounds settle allPairs refine survives matched every matchedBy paired related any from all keep
     reportOf line numbersIn decimal decimalIn reducedWord statesWord rulesWord roundsWord
 report-of-T = refl
 
 pub bench : Bench
 unfolding reduce reductionRounds shortened numbered position restricted kept needed pruned dominated dominatedBy quotient firsts sameRule sameStates
     renamed representative firstOf equivalent roundsIn below trimmed namesOnly productive buildable closure foundIn among
-    relation relationAt rounds settle allPairs refine keep holds matched every matches paired related any from all
+    relation relationAt rounds settle allPairs refine keep survives matched every matchedBy paired related any from all
     encode encodeRules encodeRule encodeRecord bytes2 bytes4 fields
     report
 bench = record { B1 = (refl, refl, refl); B2-to-B10-and-B12 = simulation.bench; B11 = (refl, refl, refl); report-on-T = rw (whole, T-judged .0) report-of-T }

@@ -5,27 +5,18 @@ use native.Mathlib.Numerals.{add-one}
 use mathlib.Core.Path.{_≡_, refl, sym, ap, _∙_}
 use mathlib.Core.List.{List, [], _∷_, _++_, map, List·Memᴰ, List·Memᴰ·head, List·Memᴰ·tail, List·Memᴰ·not-nil, Memᴰ·cast}
 use mathlib.Core.Bool.{Bool, true, false, cond, not, _&&_, _||_, false≢true}
-use Rattle.automaton.specs.Lists.{from, keep}
+use Rattle.automaton.specs.Lists.{Distinct, bare, new, from, keep}
 use Rattle.automaton.specs.Automaton.{Rule}
 use Rattle.automaton.proofs.Keeping.{keep-both, keep-agree, keep-all, keep-in, keep-out}
+use Rattle.automaton.proofs.Distinctness.{keep-distinct}
 use Rattle.simulation.specs.Tree.{any}
 use Rattle.simulation.proofs.Ranges.{from-append}
 use Rattle.reduction.specs.Steps.{sameRule, firsts}
-use Rattle.reduction.specs.Irreducible.{Distinct, none, also}
 use Rattle.reduction.proofs.Members.{same-rule-out, same-rule-refl}
 
 -- Whether a rule differs from the one that stays.
 abbrev differs : Rule → Rule → Bool
 differs u v = not (sameRule u v)
-
-pub keep-distinct : {A : Type 0} (test : A → Bool) {xs : List A} → Distinct xs → Distinct (keep test xs)
-unfolding keep
-keep-distinct test none = none
-keep-distinct test (also {x = x} {xs = xs} h d) = go (test x) (keep-distinct test d)
-  where
-    go : (t : Bool) → Distinct (keep test xs) → Distinct (cond t (x ∷ keep test xs) (keep test xs))
-    go true k = also (λ m. h (keep-out test xs m .0)) k
-    go false k = k
 
 pub firsts-in : (us : List Rule) {u : Rule} → List·Memᴰ u us → List·Memᴰ u (firsts us)
 unfolding firsts
@@ -46,15 +37,15 @@ firsts-out (x ∷ us) (List·Memᴰ·tail m) =
 
 pub firsts-distinct : (us : List Rule) → Distinct (firsts us)
 unfolding firsts
-firsts-distinct [] = none
+firsts-distinct [] = bare
 firsts-distinct (u ∷ us) =
-    also (λ m. false≢true (ap not (sym (same-rule-refl u)) ∙ keep-out (differs u) (firsts us) m .1))
+    new (λ m. false≢true (ap not (sym (same-rule-refl u)) ∙ keep-out (differs u) (firsts us) m .1))
     (keep-distinct (differs u) (firsts-distinct us))
 
 pub firsts-same : (us : List Rule) → Distinct us → firsts us ≡ us
 unfolding firsts
 firsts-same [] d = refl
-firsts-same (u ∷ us) (also h d) =
+firsts-same (u ∷ us) (new h d) =
     ap (λ (vs : List Rule). u ∷ vs)
     (rw (firsts-same us d) (keep-all (differs u) us (λ v m. go v m (sameRule u v) refl)))
   where

@@ -14,7 +14,7 @@ use Rattle.automaton.specs.Decoded.{ruleAt}
 use Rattle.automaton.proofs.StateSets.{same-test}
 use Rattle.automaton.proofs.Keeping.{keep-in}
 use Rattle.simulation.specs.Tree.{any}
-use Rattle.simulation.specs.Simulation.{Relation, matches}
+use Rattle.simulation.specs.Simulation.{Relation, matchedBy}
 use Rattle.simulation.specs.Words.{rulesIn, relationWords}
 use Rattle.simulation.specs.Inner.{keyed, Chains}
 use Rattle.simulation.proofs.Search.{and-true-out, and-false-left, any-in, any-out}
@@ -54,12 +54,12 @@ module _ (ranks rows : List ℕ) (i j : ℕ) where
   rule-same e hi hj =
       rw (row-states rows i _ hi, row-states rows j _ hj, e, eq-eqb (getD rows (10 * i) 0) (getD rows (10 * i) 0) refl)
 
-  pub better-same : (R : Relation) → matches R (ruleAt ranks rows i) (ruleAt ranks rows j) ≡ true
-      → (matches R (ruleAt ranks rows i) (ruleAt ranks rows j)
+  pub better-same : (R : Relation) → matchedBy R (ruleAt ranks rows i) (ruleAt ranks rows j) ≡ true
+      → (matchedBy R (ruleAt ranks rows i) (ruleAt ranks rows j)
       && not (sameStates (ruleAt ranks rows i .children) (ruleAt ranks rows j .children)))
       ≡ not (sameStates (take (getD ranks (getD rows (10 * i) 0) 0) (drop (10 * i + 2) rows))
       (take (getD ranks (getD rows (10 * i) 0) 0) (drop (10 * j + 2) rows)))
-  unfolding matches ruleAt
+  unfolding matchedBy ruleAt
   better-same R h =
       let s = and-true-out (eqb (getD rows (10 * i) 0) (getD rows (10 * j) 0)) _ h in
       let e : getD rows (10 * i) 0 ≡ getD rows (10 * j) 0 = eqb-true _ _ (s .0) in
@@ -142,7 +142,7 @@ module _ (ranks rows : List ℕ) (k i : ℕ) where
   -- Rule j, if its target is that of rule i, dominates rule i.
   abbrev better : Relation → ℕ → Bool
   better R j =
-      matches R (ruleAt ranks rows i) (ruleAt ranks rows j)
+      matchedBy R (ruleAt ranks rows i) (ruleAt ranks rows j)
       && not (sameStates (ruleAt ranks rows i .children) (ruleAt ranks rows j .children))
 
   -- The rules from the link on decide whether rule i is dominated.

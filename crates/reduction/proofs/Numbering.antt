@@ -8,12 +8,12 @@ use mathlib.Core.Bool.{Bool, true, false, cond}
 use lib.ListN.{length, getD}
 use lib.Dec.{eqb}
 use borrow.Author.Tests.{eq-eqb, eqb-true, ne-eqb}
-use Rattle.automaton.specs.Lists.{Rising, empty}
+use Rattle.automaton.specs.Lists.{Rising, empty, Distinct}
 use Rattle.automaton.specs.Automaton.{Rule}
+use Rattle.automaton.proofs.Distinctness.{distinct-map}
 use Rattle.simulation.specs.Simulation as simulation
 use Rattle.simulation.specs.Simulation.{Each, Simulates}
 use Rattle.reduction.specs.Steps.{Stage, renamed, position, numbered}
-use Rattle.reduction.specs.Irreducible.{Distinct, none, also}
 use Rattle.reduction.specs.Inner.{Sound}
 use Rattle.reduction.proofs.Quotient.{each-named}
 use Rattle.reduction.proofs.Members.{rising-rest, rising-above, rising-add}
@@ -89,16 +89,6 @@ module _ {A B : Type 0} (f : A → B) where
   map-injective (x ∷ xs) (y ∷ ys) h e =
       ap₂ _∷_ (h x y (List·Memᴰ·head refl) (List·Memᴰ·head refl) (cc))
       (map-injective xs ys (λ a b m n. h a b (List·Memᴰ·tail m) (List·Memᴰ·tail n)) (cc))
-
-  distinct-map : {xs : List A} → ((x y : A) → List·Memᴰ x xs → List·Memᴰ y xs → f x ≡ f y → x ≡ y) → Distinct xs → Distinct (map f xs)
-  distinct-map h none = none
-  distinct-map h (also {x = x} {xs = xs} other d) =
-      also twice (distinct-map (λ a b m n. h a b (List·Memᴰ·tail m) (List·Memᴰ·tail n)) d)
-    where
-      twice : List·Memᴰ (f x) (map f xs) → ⊥
-      twice m =
-          let s = Memᴰ·of-map f xs m in
-          other (Memᴰ·cast (h x (s .0) (List·Memᴰ·head refl) (List·Memᴰ·tail (s .1)) (sym (s .2))) (s .1))
 
 -- A renamed list of states is related to the list.
 named-each : {D : ℕ → ℕ → Type 0} (f : ℕ → ℕ) {qs rs : List ℕ} → map f qs ≡ rs → ((q : ℕ) → List·Memᴰ q qs → D (f q) q)

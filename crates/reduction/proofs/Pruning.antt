@@ -12,7 +12,7 @@ use Rattle.automaton.specs.Lists.{keep}
 use Rattle.automaton.specs.Automaton.{Rule}
 use Rattle.automaton.proofs.Keeping.{keep-in, keep-out}
 use Rattle.simulation.specs.Tree.{any}
-use Rattle.simulation.specs.Simulation.{Each, none, also, Matched, Simulates, Relation, paired, matches}
+use Rattle.simulation.specs.Simulation.{Each, none, also, Matched, Simulates, Relation, paired, matchedBy}
 use Rattle.simulation.proofs.Search.{and-true-in, and-true-out, and-false-right, any-in, any-out}
 use Rattle.simulation.proofs.Refinement.{Within, paired-each, each-paired}
 use Rattle.simulation.proofs.Language.{each-map, each-compose, each-refl}
@@ -56,10 +56,10 @@ record DominatedBy (R : Relation) (u v : Rule) : Type 0 where
   differ : u .children ≡ v .children → ⊥
 
 dominated-out : (R : Relation) (u v : Rule) → dominatedBy R u v ≡ true → DominatedBy R u v
-unfolding dominatedBy matches
+unfolding dominatedBy matchedBy
 dominated-out R u v h =
     let a = and-true-out (eqb (u .target) (v .target)) _ h in
-    let b = and-true-out (matches R u v) (not (sameStates (u .children) (v .children))) (a .1) in
+    let b = and-true-out (matchedBy R u v) (not (sameStates (u .children) (v .children))) (a .1) in
     let c = and-true-out (eqb (u .symbol) (v .symbol)) (paired R (u .children) (v .children)) (b .0) in
     record {
       target = eqb-true (u .target) (v .target) (a .0);
@@ -69,7 +69,7 @@ dominated-out R u v h =
     }
 
 dominated-in : (R : Relation) (u v : Rule) → DominatedBy R u v → dominatedBy R u v ≡ true
-unfolding dominatedBy matches
+unfolding dominatedBy matchedBy
 dominated-in R u v d =
     and-true-in (eq-eqb (u .target) (v .target) (d .target))
     (and-true-in (and-true-in (eq-eqb (u .symbol) (v .symbol) (d .symbol)) (each-paired R (d .children)))
@@ -82,7 +82,7 @@ dominated-in R u v d =
 dominated-self : (R : Relation) (u : Rule) → dominatedBy R u u ≡ false
 unfolding dominatedBy
 dominated-self R u =
-    and-false-right (eqb (u .target) (u .target)) (and-false-right (matches R u u) (ap not (same-states-refl (u .children))))
+    and-false-right (eqb (u .target) (u .target)) (and-false-right (matchedBy R u u) (ap not (same-states-refl (u .children))))
 
 pub each-inside : {D : ℕ → ℕ → Type 0} {P : ℕ → Type 0} {qs rs : List ℕ} → Each D qs rs
     → ((q : ℕ) → List·Memᴰ q qs → P q) → ((r : ℕ) → List·Memᴰ r rs → P r) → Each (λ (q r : ℕ). P q × P r × D q r) qs rs

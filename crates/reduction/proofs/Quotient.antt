@@ -7,7 +7,7 @@ use mathlib.Core.List.{List, [], _∷_, map, List·Memᴰ, List·Memᴰ·head, L
 use mathlib.Core.Bool.{Bool, true, false, cond}
 use lib.Dec.{eqb}
 use borrow.Author.Tests.{eq-eqb, eqb-true}
-use Rattle.automaton.specs.Lists.{All, Rising, from, keep}
+use Rattle.automaton.specs.Lists.{All, Rising, Distinct, from, keep}
 use Rattle.automaton.specs.Automaton.{Rule}
 use Rattle.automaton.proofs.Keeping.{keep-in, keep-out}
 use Rattle.simulation.specs.Tree.{any}
@@ -19,7 +19,6 @@ use Rattle.simulation.proofs.Refinement.{Within}
 use Rattle.simulation.proofs.Maximality as maximality
 use Rattle.simulation.proofs.Maximality.{Closed}
 use Rattle.reduction.specs.Steps.{Stage, below, equivalent, firstOf, representative, renamed, quotient}
-use Rattle.reduction.specs.Irreducible.{Distinct}
 use Rattle.reduction.specs.Inner.{Sound}
 use Rattle.reduction.proofs.Members.{same-bool, rising-rest, rising-above, rising-keep}
 use Rattle.reduction.proofs.Firsts.{firsts-in, firsts-out, firsts-distinct}

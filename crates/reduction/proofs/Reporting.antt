@@ -13,8 +13,8 @@ use Rattle.automaton.specs.Table.{judge}
 use Rattle.automaton.specs.Decoded.{sizeOf, automatonIn}
 use Rattle.automaton.specs.Inner.{over}
 use Rattle.automaton.specs.declared.refusal.Refusal.{Refusal}
-use Rattle.automaton.specs.declared.refusal.Refusal.the-variants.{Broken, Kind, Length, Limit, Range, Order, Count}
-use Rattle.automaton.specs.declared.refusal.Refusal.the-variants.{Tree, Symbol, Shape, Bound, State, Room}
+use Rattle.automaton.specs.declared.refusal.Refusal.the-variants.{BrokenRecord, WrongKind, WrongLength, AboveLimit, OutOfRange, FinalsOutOfOrder, WrongRuleCount}
+use Rattle.automaton.specs.declared.refusal.Refusal.the-variants.{NotATree, UnknownSymbol, Unbalanced, TreeAboveLimit, UnknownState, ShortOutput}
 use Rattle.automaton.specs.declared.table.Size.{Size}
 use Rattle.automaton.proofs.Theorems.{judge-causes, judged-well-formed}
 use Rattle.automaton.proofs.Meaning.{Held}
@@ -31,19 +31,19 @@ use Rattle.reduction.proofs.Counting.{closure-shorter, reduce-well-form
 -- A table that is refused.
 
 pub refusal-few : (cause : Refusal) → numberOf cause ≤ 13
-refusal-few Broken = omega arith
-refusal-few Kind = omega arith
-refusal-few Length = omega arith
-refusal-few Limit = omega arith
-refusal-few Range = omega arith
-refusal-few Order = omega arith
-refusal-few Count = omega arith
-refusal-few Tree = omega arith
-refusal-few Symbol = omega arith
-refusal-few Shape = omega arith
-refusal-few Bound = omega arith
-refusal-few State = omega arith
-refusal-few Room = omega arith
+refusal-few BrokenRecord = omega arith
+refusal-few WrongKind = omega arith
+refusal-few WrongLength = omega arith
+refusal-few AboveLimit = omega arith
+refusal-few OutOfRange = omega arith
+refusal-few FinalsOutOfOrder = omega arith
+refusal-few WrongRuleCount = omega arith
+refusal-few NotATree = omega arith
+refusal-few UnknownSymbol = omega arith
+refusal-few Unbalanced = omega arith
+refusal-few TreeAboveLimit = omega arith
+refusal-few UnknownState = omega arith
+refusal-few ShortOutput = omega arith
 
 pub report-refused : (b : List ℕ) (cause : Refusal) → judge b ≡ refused (numberOf cause)
     → (out : List ℕ) (n end : ℕ) (now : List ℕ) → n ≡ numberOf cause → Put out 0 (line refusedWord (n ∷ [])) end now

@@ -19,40 +19,40 @@ use Rattle.reduction.proofs.Closure.{Monotone, closure-least, closure-s
 use Rattle.reduction.proofs.Trimming.{member-all, part-simulates}
 
 -- A rule whose target was found before and that has q among its children.
-pub record Asked (S : Stage) (found : List ℕ) (q : ℕ) : Type 0 where
+pub record Asked (S : Stage) (earlier : List ℕ) (q : ℕ) : Type 0 where
   pub rule : Rule
   pub is-rule : List·Memᴰ rule (S .rules)
-  pub target : List·Memᴰ (rule .target) found
+  pub target : List·Memᴰ (rule .target) earlier
   pub child : List·Memᴰ q (rule .children)
 
 module _ (S : Stage) where
-  needed-final : (found : List ℕ) (q : ℕ) → List·Memᴰ q (S .finals) → needed S found q ≡ true
+  needed-final : (earlier : List ℕ) (q : ℕ) → List·Memᴰ q (S .finals) → needed S earlier q ≡ true
   unfolding needed
-  needed-final found q m = or-true-left _ (among-in m)
+  needed-final earlier q m = or-true-left _ (among-in m)
 
-  needed-child : (found : List ℕ) (q : ℕ) → Asked S found q → needed S found q ≡ true
+  needed-child : (earlier : List ℕ) (q : ℕ) → Asked S earlier q → needed S earlier q ≡ true
   unfolding needed
-  needed-child found q a =
+  needed-child earlier q a =
       or-true-right (among (S .finals) q)
-      (any-in (λ (u : Rule). among found (u .target) && among (u .children) q) (a .is-rule)
+      (any-in (λ (u : Rule). among earlier (u .target) && among (u .children) q) (a .is-rule)
       (and-true-in (among-in (a .target)) (among-in (a .child))))
 
-  pub needed-out : (found : List ℕ) (q : ℕ) → needed S found q ≡ true → List·Memᴰ q (S .finals) ⊎ Asked S found q
+  pub needed-out : (earlier : List ℕ) (q : ℕ) → needed S earlier q ≡ true → List·Memᴰ q (S .finals) ⊎ Asked S earlier q
   unfolding needed
-  needed-out found q h = go (or-true-out (among (S .finals) q) (any asks (S .rules)) h)
+  needed-out earlier q h = go (or-true-out (among (S .finals) q) (any asks (S .rules)) h)
     where
       asks : Rule → Bool
-      asks u = among found (u .target) && among (u .children) q
+      asks u = among earlier (u .target) && among (u .children) q
 
-      go : (among (S .finals) q ≡ true) ⊎ (any asks (S .rules) ≡ true) → List·Memᴰ q (S .finals) ⊎ Asked S found q
+      go : (among (S .finals) q ≡ true) ⊎ (any asks (S .rules) ≡ true) → List·Memᴰ q (S .finals) ⊎ Asked S earlier q
       go (inl e) = inl (among-out (S .finals) q e)
       go (inr e) =
           let u = any-out asks (S .rules) e in
-          let a = and-true-out (among found (u .element .target)) (among (u .element .children) q) (u .passes) in
+          let a = and-true-out (among earlier (u .element .target)) (among (u .element .children) q) (u .passes) in
           inr (record {
             rule = u .element;
             is-rule = u .member;
-            target = among-out found (u .element .target) (a .0);
+            target = among-out earlier (u .element .target) (a .0);
             child = among-out (u .element .children) q (a .1);
           })
 
@@ -90,15 +90,15 @@ module _ (S : Stage) (sound : Sound S) where
       → (q : ℕ) → List·Memᴰ q (kept S) → P q
   unfolding kept
   kept-least P final child q m =
-      closure-least (needed S) (S .states) Kept (λ found h p n e. go found h p (needed-out S found p e)) q m .1
+      closure-least (needed S) (S .states) Kept (λ earlier h p n e. go earlier h p (needed-out S earlier p e)) q m .1
     where
       Kept : ℕ → Type 0
       Kept p = List·Memᴰ p (kept S) × P p
 
-      go : (found : List ℕ) → ((p : ℕ) → List·Memᴰ p found → Kept p)
-          → (p : ℕ) → List·Memᴰ p (S .finals) ⊎ Asked S found p → Kept p
-      go found h p (inl f) = (finals-kept p f, final p f)
-      go found h p (inr a) =
+      go : (earlier : List ℕ) → ((p : ℕ) → List·Memᴰ p earlier → Kept p)
+          → (p : ℕ) → List·Memᴰ p (S .finals) ⊎ Asked S earlier p → Kept p
+      go earlier h p (inl f) = (finals-kept p f, final p f)
+      go earlier h p (inr a) =
           let t = h (a .rule .target) (a .target) in
           (children-kept (a .rule) (a .is-rule) (t .0) p (a .child), child (a .rule) (a .is-rule) (t .0) (t .1) p (a .child))
 

@@ -16,6 +16,7 @@ use Rattle.automaton.specs.Table.{judge, encode}
 use Rattle.automaton.specs.Decoded.{written, writtenOver}
 use Rattle.automaton.proofs.Inversion.{refused≢found, bind-found}
 use Rattle.automaton.proofs.Causes.{Causes, causes, TableCauseOr, table-causes-or}
+use Rattle.automaton.proofs.Leaving.{Keeps, bind-keeps, written-keeps}
 use Rattle.simulation.specs.Tree.{Tree, accepts}
 use Rattle.simulation.specs.Run.{Accepts}
 use Rattle.simulation.specs.Postfix.{judgeTree}
@@ -75,6 +76,14 @@ reduction-judged table out r h = let s = bind-found (judge table) _ h in (s .0, 
 pub reduction-causes : (table out : List ℕ) → Causes (TableCauseOr 13) (reduction table out)
 unfolding reduction written
 reduction-causes table out = search (causes, table-causes-or 13, inr) depth 9
+
+pub reduction-keeps : (table out : List ℕ) → Keeps (reduction table out) (reductionAfter (judge table) out) out
+unfolding reduction reductionAfter _>>=_
+reduction-keeps table out cause e = go (judge table) refl
+  where
+    go : (j : Read Automaton) → judge table ≡ j → reductionAfter j out ≡ out
+    go (found A) f = bind-keeps (written _ out) _ (written-keeps _ out) cause (rw f at e)
+    go (refused other) f = refl
 
 -- Automata that accept the same trees over the same ranks answer every check alike.
 pub acceptance-same : (table other : List ℕ) (A B : Automaton) → judge table ≡ found A → judge other ≡ found B → B .ranks ≡ A .ranks

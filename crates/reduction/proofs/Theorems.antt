@@ -1,7 +1,7 @@
 -- What holds of reduction, stated over the definitions of specs/ alone: of each step, of a reduced automaton, and demand 3 of the bytes that
 -- the call writes, whose sentences are the fields of the record in specs/Demand3.antt. Each theorem is proved in the file that its body names.
 use Prim.Native.Nat.{ℕ, suc, _≤_, _<_}
-use mathlib.Core.Path.{_≡_}
+use mathlib.Core.Path.{_≡_, sym, ap, _∙_}
 use mathlib.Core.Logic.{_⊎_, _↔_}
 use mathlib.Core.List.{List, List·Memᴰ}
 use mathlib.Core.Bool.{true}
@@ -13,16 +13,17 @@ use Rattle.automaton.proofs.Causes.{cause-of}
 use Rattle.simulation.specs.Tree.{Tree, Over}
 use Rattle.simulation.specs.Run.{Reaches, Accepts}
 use Rattle.simulation.specs.Simulation.{Simulates, related, relationAt}
+use Rattle.simulation.specs.Check.{acceptanceOf, acceptance, counted, Checks}
+use Rattle.simulation.specs.declared.checking.Checked.{Checked}
+use Rattle.simulation.specs.declared.checking.Counts.{Counts}
 use Rattle.simulation.proofs.Refinement as refinement
 use Rattle.simulation.proofs.Search.{and-true-in, and-true-out}
 use Rattle.reduction.specs.Steps.{Stage, productive, trimmed, below, roundsIn, equivalent, representative, quotient, pruned, kept}
-use Rattle.reduction.specs.Reduce.{reduce, reductionRounds, reductionOf, reduction, reductionAfter}
+use Rattle.reduction.specs.Reduce.{reduce, reductionRounds, reduction, reductionAfter}
 use Rattle.reduction.specs.Irreducible.{Irreducible}
 use Rattle.reduction.specs.Demand3.{Demand3}
-use Rattle.reduction.specs.Report.{decimal}
+use Rattle.reduction.specs.Report.{decimal, Numeral}
 use Rattle.reduction.specs.declared.reducing.Reduction.{Reduction}
-use Rattle.reduction.specs.declared.reducing.Reduced.{Reduced}
-use Rattle.reduction.specs.declared.reducing.Reduced.the-variants.{Table}
 use Rattle.reduction.proofs.Trimming as trimming
 use Rattle.reduction.proofs.Quotient as quot
 use Rattle.reduction.proofs.Restricting as restricting
@@ -139,12 +140,28 @@ pub reduction-causes : (table out : List ℕ) (cause : ℕ) → reduction table 
     → ((1 ≤ cause) × (cause ≤ 7)) ⊎ (cause ≡ 13)
 reduction-causes table out cause = cause-of (rewritten.reduction-causes table out)
 
--- Demand 3, of what the call answers and of the bytes that it writes: the first two premises are its contract.
-pub demand-3 : (table out after : List ℕ) (answer : Reduced) → reductionOf answer ≡ reduction table out
-    → after ≡ reductionAfter (judge table) out → ((i : ℕ) → getD table i 0 < 256)
-    → (r : Reduction) → answer ≡ Table r → Demand3 table out r (take (r .length) after)
+-- A refusal leaves the output.
+pub reduction-leaves : (table out : List ℕ) (cause : ℕ) → reduction table out ≡ refused cause → reductionAfter (judge table) out ≡ out
+reduction-leaves = rewritten.reduction-keeps
+
+-- Demand 3, which the call `reduce` ensures, of the definitions that its other promises cite.
+pub demand-3 : (table out : List ℕ) (r : Reduction) → ((i : ℕ) → getD table i 0 < 256) → reduction table out ≡ found r
+    → Demand3 table out r (take (r .length) (reductionAfter (judge table) out))
 demand-3 = delivered.demand-3
 
+-- Under demand 3 the counts are the same too, whatever was counted before; and two checks that meet the promise of the call `check` have the
+-- same answer and the same counts.
+module _ (table out : List ℕ) (r : Reduction) (bytes : List ℕ) (d : Demand3 table out r bytes) (counts : Counts) (tree : List ℕ) where
+  pub same-counts : counted counts (acceptance table tree) ≡ counted counts (acceptance bytes tree)
+  same-counts = ap (counted counts) (d .same-answer tree)
+
+  pub same-check : (a b : Checked) → Checks counts table tree a → Checks counts bytes tree b
+      → (acceptanceOf (a .answer) ≡ acceptanceOf (b .answer)) × (a .counts ≡ b .counts)
+  same-check a b h k = (
+    h .answer ∙ d .same-answer tree ∙ sym (k .answer),
+    h .counts-after ∙ same-counts ∙ sym (k .counts-after),
+  )
+
 -- The report's numbers: the digits of v read back give v, and none stands before them that is 0.
-pub decimal-numeral : (v : ℕ) → digits.Numeral v (decimal v)
+pub decimal-numeral : (v : ℕ) → Numeral v (decimal v)
 decimal-numeral = digits.decimal-numeral

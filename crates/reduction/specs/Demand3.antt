@@ -1,21 +1,21 @@
--- Demand 3, of the bytes: what holds of a table that was reduced into `out`, of the call's answer r, and of the bytes that it wrote. Each
--- field is one of demand 3's sentences.
+-- Demand 3, of the bytes: what holds of a table that was reduced into `out`, of the call's answer r, and of the bytes that it wrote; and what
+-- the call promises.
 use Prim.Native.Nat.{ℕ, _≤_}
 use mathlib.Core.Path.{_≡_}
 use mathlib.Core.Logic.{_↔_}
 use mathlib.Core.List.{List, _++_}
-use lib.ListN.{length, drop}
+use lib.ListN.{length, take, drop}
 use Rattle.automaton.specs.Automaton.{Automaton}
 use Rattle.automaton.specs.Read.{found}
 use Rattle.automaton.specs.Table.{judge}
 use Rattle.simulation.specs.Tree.{Tree, Over}
 use Rattle.simulation.specs.Run.{Accepts}
-use Rattle.simulation.specs.Check.{acceptanceOf, acceptance, counted, Checks}
-use Rattle.simulation.specs.declared.checking.Checked.{Checked}
-use Rattle.simulation.specs.declared.checking.Counts.{Counts}
+use Rattle.simulation.specs.Check.{acceptance}
 use Rattle.reduction.specs.Reduce.{reductionRounds, reduction, reductionAfter}
 use Rattle.reduction.specs.Irreducible.{Irreducible}
 use Rattle.reduction.specs.declared.reducing.Reduction.{Reduction}
+use Rattle.reduction.specs.declared.reducing.Reduced.{Reduced}
+use Rattle.reduction.specs.declared.reducing.Reduced.the-variants as answers
 
 -- Handed in as the table, with some room, a table gives its own bytes and length, and loses no state and no rule.
 pub record Again (bytes room : List ℕ) : Type 0 where
@@ -46,14 +46,15 @@ pub record Demand3 (table out : List ℕ) (r : Reduction) (bytes : List ℕ) : T
   -- Both accept the same trees over the table's symbols, of any size. (Acceptance by runs is 01's "belongs to a final state": the
   -- simulation's theorems `belongs-reaches` and `accepted-runs`.)
   pub same-trees : (t : Tree) → Over (first .ranks) t → Accepts first t ↔ Accepts reduced t
-  -- Whatever bytes are given as a tree and whatever was counted before, a check against either gives the same answer or refusal, and the
-  -- same counts.
+  -- Whatever bytes are given as a tree, a check against either gives the same answer or refusal. What is counted depends on the answer
+  -- alone: the theorems `same-counts` and `same-check` say that the counts are the same too, and both of two checks by the call.
   pub same-answer : (tree : List ℕ) → acceptance table tree ≡ acceptance bytes tree
-  pub same-counts : (counts : Counts) (tree : List ℕ) → counted counts (acceptance table tree) ≡ counted counts (acceptance bytes tree)
-  -- The same of the call: two checks that meet its promise.
-  pub same-check : (counts : Counts) (tree : List ℕ) (c d : Checked) → Checks counts table tree c → Checks counts bytes tree d
-      → (acceptanceOf (c .answer) ≡ acceptanceOf (d .answer)) × (c .counts ≡ d .counts)
   -- Every state takes part in an accepted tree, no two different states simulate each other, no rule stands twice or is dominated.
   pub irreducible : Irreducible reduced
   -- Reduced again means with an output not shorter than it.
   pub again : (room : List ℕ) → length bytes ≤ length room → Again bytes room
+
+-- What the call promises of its answer and of the output afterwards: demand 3 of the bytes that it wrote; a refusal leaves the output.
+unfoldable pub MeetsDemand3 : List ℕ → List ℕ → Reduced → List ℕ → Type 0
+MeetsDemand3 table out (answers.Table r) after = Demand3 table out r (take (r .length) after)
+MeetsDemand3 table out (answers.Refused cause) after = after ≡ out

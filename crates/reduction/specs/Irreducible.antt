@@ -2,18 +2,14 @@
 -- simulate each other, no rule stands twice and no rule is dominated.
 use Prim.Native.Nat.{ℕ, _<_}
 use mathlib.Core.Path.{_≡_}
-use mathlib.Core.List.{List, [], _∷_, List·Memᴰ}
+use mathlib.Core.List.{List·Memᴰ}
 use mathlib.Core.Bool.{true, false}
+use Rattle.automaton.specs.Lists.{Distinct}
 use Rattle.automaton.specs.Automaton.{Rule, Automaton}
 use Rattle.simulation.specs.Run.{Useful}
 use Rattle.simulation.specs.Simulation.{related}
 use Rattle.simulation.specs.Query.{simulationOf}
 use Rattle.reduction.specs.Steps.{dominated}
-
--- No element stands twice.
-pub data Distinct {A : Type 0} : List A → Type 0 where
-  none : Distinct []
-  also : {x : A} {xs : List A} → (List·Memᴰ x xs → ⊥) → Distinct xs → Distinct (x ∷ xs)
 
 -- ≤ is that of the table itself.
 pub record Irreducible (A : Automaton) : Type 0 where

@@ -1,9 +1,11 @@
 -- The report on some bytes: `refused` and the number on one line, or four lines.
-use Prim.Native.Nat.{ℕ, zero, suc, _+_, _/_, _%_}
+use Prim.Native.Nat.{ℕ, zero, suc, _+_, _-_, _*_, _/_, _%_, _≤_}
+use mathlib.Core.Path.{_≡_}
 use mathlib.Core.List.{List, [], _∷_, _++_}
 use mathlib.Core.Bool.{cond}
 use lib.ListN.{length, take}
 use lib.Dec.{ltb}
+use Rattle.automaton.specs.Lists.{All}
 use Rattle.automaton.specs.Automaton.{Automaton}
 use Rattle.automaton.specs.Read.{Read, found, refused}
 use Rattle.automaton.specs.Table.{judge}
@@ -16,6 +18,21 @@ decimalIn (suc digits) v = cond (ltb v 10) ((48 + v) ∷ []) (decimalIn digits (
 
 unfoldable pub decimal : ℕ → List ℕ
 decimal v = decimalIn (suc v) v
+
+-- What "in decimal without leading zeros" means: digits, bytes 48 to 57, at least one, that stand for v, and no zero in front of another. The
+-- theorem `decimal-numeral` says it of `decimal`.
+unfoldable pub valueFrom : ℕ → List ℕ → ℕ
+valueFrom high [] = high
+valueFrom high (d ∷ ds) = valueFrom (10 * high + (d - 48)) ds
+
+unfoldable pub value : List ℕ → ℕ
+value ds = valueFrom 0 ds
+
+pub record Numeral (v : ℕ) (ds : List ℕ) : Type 0 where
+  pub reads : value ds ≡ v
+  pub digits : All (λ (d : ℕ). (48 ≤ d) × (d ≤ 57)) ds
+  pub some : 1 ≤ length ds
+  pub leading : (rest : List ℕ) → ds ≡ 48 ∷ rest → (v ≡ 0) × (rest ≡ [])
 
 -- Each number behind one space; and a line, which byte 10 ends.
 unfoldable pub numbersIn : List ℕ → List ℕ

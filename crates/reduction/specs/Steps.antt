@@ -8,7 +8,7 @@ use lib.Dec.{eqb}
 use Rattle.automaton.specs.Lists.{all, from, keep}
 use Rattle.automaton.specs.Automaton.{Rule, Automaton}
 use Rattle.simulation.specs.Tree.{any}
-use Rattle.simulation.specs.Simulation.{Relation, related, matches, relation, rounds}
+use Rattle.simulation.specs.Simulation.{Relation, related, matchedBy, relation, rounds}
 
 -- An automaton in work: the states that are left, the final ones among them, and the rules between them.
 pub record Stage : Type 0 where
@@ -32,7 +32,7 @@ closure test states = foundIn test states (length states)
 -- Step 1: drop states to which no tree belongs, and each rule that names one. A tree belongs to the target of a rule exactly if trees
 -- belong to its children; the theorem `productive-trees` says that what is found so are the states to which a tree belongs.
 unfoldable pub buildable : List Rule → List ℕ → ℕ → Bool
-buildable rules found q = any (λ (u : Rule). eqb (u .target) q && all (among found) (u .children)) rules
+buildable rules earlier q = any (λ (u : Rule). eqb (u .target) q && all (among earlier) (u .children)) rules
 
 unfoldable pub productive : Automaton → List ℕ
 productive A = closure (buildable (A .rules)) (from 0 (A .states))
@@ -93,7 +93,7 @@ quotient R S = record {
 -- Step 4: a rule is dominated (document 01: "outdone") by another of the same symbol and target if each of its children is ≤ the other's
 -- and at least one differs. Drop together all rules dominated among those of step 3.
 unfoldable pub dominatedBy : Relation → Rule → Rule → Bool
-dominatedBy R u v = eqb (u .target) (v .target) && (matches R u v && not (sameStates (u .children) (v .children)))
+dominatedBy R u v = eqb (u .target) (v .target) && (matchedBy R u v && not (sameStates (u .children) (v .children)))
 
 unfoldable pub dominated : Relation → List Rule → Rule → Bool
 dominated R rules u = any (dominatedBy R u) rules
@@ -108,7 +108,7 @@ pruned R S = record {
 -- Step 5: keep final blocks and, repeatedly, the children of rules whose target is kept. Drop the remaining blocks with their rules. All
 -- final blocks stay, and so do all children of the rules that stay.
 unfoldable pub needed : Stage → List ℕ → ℕ → Bool
-needed S found q = among (S .finals) q || any (λ (u : Rule). among found (u .target) && among (u .children) q) (S .rules)
+needed S earlier q = among (S .finals) q || any (λ (u : Rule). among earlier (u .target) && among (u .children) q) (S .rules)
 
 unfoldable pub kept : Stage → List ℕ
 kept S = closure (needed S) (S .states)

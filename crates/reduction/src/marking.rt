@@ -14,7 +14,7 @@ ghost use Rattle.reduction.specs.Inner.{marked, isFirst};
 use automaton::StateSet;
 use simulation::all_in;
 use simulation::chain_rules;
-use simulation::rule_matches;
+use simulation::is_matched_by;
 
 // Marks the rules whose target and children are all in a set.
 pub fn mark_named(
@@ -137,11 +137,11 @@ fn is_better(
     requires { ⌜ (i < 1024) × (j < 1024) ⌝ }
     requires { ⌜ RowRanged (now ranks) (now rows) i × RowRanged (now ranks) (now rows) j ⌝ }
     ensures { λ x. ⌜ ((R : simulation.Relation) → now (words .entry) ≡ relationWords R → x
-        ≡ (simulation.matches R (ruleAt (now (ranks .entry)) (now (rows .entry)) i) (ruleAt (now (ranks .entry)) (now (rows .entry)) j)
+        ≡ (simulation.matchedBy R (ruleAt (now (ranks .entry)) (now (rows .entry)) i) (ruleAt (now (ranks .entry)) (now (rows .entry)) j)
         && not (sameStates (ruleAt (now (ranks .entry)) (now (rows .entry)) i .children)
         (ruleAt (now (ranks .entry)) (now (rows .entry)) j .children)))) ⌝ }
 {
-    if !rule_matches(words, ranks, rows, i, j) {
+    if !is_matched_by(words, ranks, rows, i, j) {
         return false;
     }
     let symbol = rows[10 * i] as usize;

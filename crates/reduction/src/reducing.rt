@@ -2,6 +2,7 @@
 ghost use mathlib.Core.Path.{_≡_};
 ghost use Rattle.automaton.specs.Table.{judge};
 ghost use Rattle.reduction.specs.Reduce.{reductionOf, reduction, reductionAfter};
+ghost use Rattle.reduction.specs.Demand3.{MeetsDemand3};
 use crate::steps::reduce_rows;
 use automaton::Judged;
 use automaton::Refusal;
@@ -25,11 +26,12 @@ pub enum Reduced {
     Refused(Refusal),
 }
 
-// Writes the reduced table to the start of `out`. Refuses a table with 1 to 7, as `judge` does, and an `out` that is too short with 13; a
-// refusal leaves `out` as it is.
+// Writes the reduced table to the start of `out`: it meets demand 3. Refuses a table with 1 to 7, as `judge` does, and an `out` that is too
+// short with 13; a refusal leaves `out` as it is.
 pub fn reduce(table: &[u8], out: &mut [u8]) -> Reduced
     ensures { λ r. ⌜ reductionOf r ≡ reduction (now (table .entry)) (now (out .entry)) ⌝ }
     ensures { λ r. ⌜ now (out .exit) ≡ reductionAfter (judge (now (table .entry))) (now (out .entry)) ⌝ }
+    ensures { λ r. ⌜ MeetsDemand3 (now (table .entry)) (now (out .entry)) r (now (out .exit)) ⌝ }
 {
     let mut ranks: [u8; 256] = [0; 256];
     let mut rows: [u16; 10240] = [0; 10240];

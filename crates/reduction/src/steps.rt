@@ -26,26 +26,35 @@ use automaton::Size;
 use automaton::StateSet;
 use simulation::simulate;
 
-// What a step leaves: a set of states, and how many rules.
-pub struct Left {
-    pub states: StateSet,
+// What step 1 leaves: the productive states, and how many rules.
+pub struct Trimmed {
+    pub productive: StateSet,
     pub rules: usize,
 }
 
 // Step 1: drops states to which no tree belongs, and each rule that names one.
-fn trim(k: usize, ranks: &[u8; 256], rows: &mut [u16; 10240]) -> Left
+fn trim(k: usize, ranks: &[u8; 256], rows: &mut [u16; 10240]) -> Trimmed
     requires { ⌜ k ≤ 1024 ⌝ }
     requires { ⌜ ((i : ℕ) → i < k → RowRanged (now ranks) (now rows) i) ⌝ }
     ensures { λ r. ⌜ r .rules ≤ k ⌝ }
     ensures { λ r. ⌜ ((A : Automaton) → WellFormed A → rulesIn (now (ranks .entry)) (now (rows .entry)) k ≡ A .rules
-        → Has (r .states .words) (among (productive A))
+        → Has (r .productive .words) (among (productive A))
         × (rulesIn (now (ranks .entry)) (now (rows .exit)) (r .rules) ≡ trimmed A .rules)) ⌝ }
 {
     let states = productive(k, ranks, rows);
     let mut marks: [bool; 1024] = [false; 1024];
     mark_named(states, k, ranks, rows, &mut marks);
     let rules = compact(rows, k, &marks);
-    Left { states, rules }
+    Trimmed {
+        productive: states,
+        rules,
+    }
+}
+
+// What step 3 leaves: the representatives of final states, and how many rules.
+pub struct Grouped {
+    pub finals: StateSet,
+    pub rules: usize,
 }
 
 // Step 3: groups equivalent states under their representatives; of equal rules the first stays. Answers the final
@@ -58,14 +67,14 @@ fn group(
     k: usize,
     ranks: &[u8; 256],
     rows: &mut [u16; 10240],
-) -> Left
+) -> Grouped
     requires { ⌜ (n ≤ 256) × (k ≤ 1024) ⌝ }
     requires { ⌜ ((i : ℕ) → i < k → RowRanged (now ranks) (now rows) i) ⌝ }
     requires { ⌜ Sound (stageIn n (states .words) (finals .words) (now ranks) (now rows) k) ⌝ }
     requires { ⌜ now words ≡ relationWords (below (stageIn n (states .words) (finals .words) (now ranks) (now rows) k)) ⌝ }
     ensures { λ r. ⌜ r .rules ≤ k ⌝ }
     ensures { λ r. ⌜ ((S : Stage) → S ≡ stageIn n (states .words) (finals .words) (now (ranks .entry)) (now (rows .entry)) k
-        → Has (r .states .words) (among (quotient (below S) S .finals))
+        → Has (r .finals .words) (among (quotient (below S) S .finals))
         × (rulesIn (now (ranks .entry)) (now (rows .exit)) (r .rules) ≡ quotient (below S) S .rules)) ⌝ }
 {
     let mut names: [u16; 256] = [0; 256];
@@ -74,8 +83,8 @@ fn group(
     let mut marks: [bool; 1024] = [false; 1024];
     mark_firsts(k, ranks, rows, &mut marks);
     let rules = compact(rows, k, &marks);
-    Left {
-        states: rename_set(finals, states, n, &names),
+    Grouped {
+        finals: rename_set(finals, states, n, &names),
         rules,
     }
 }
@@ -94,21 +103,30 @@ fn prune(words: &[u64; 1024], k: usize, ranks: &[u8; 256], rows: &mut [u16; 1024
     compact(rows, k, &marks)
 }
 
+// What step 5 leaves: the kept states, and how many rules.
+pub struct Restricted {
+    pub kept: StateSet,
+    pub rules: usize,
+}
+
 // Step 5: keeps final states and, repeatedly, the children of rules whose target is kept.
-fn restrict(finals: StateSet, k: usize, ranks: &[u8; 256], rows: &mut [u16; 10240]) -> Left
+fn restrict(finals: StateSet, k: usize, ranks: &[u8; 256], rows: &mut [u16; 10240]) -> Restricted
     requires { ⌜ k ≤ 1024 ⌝ }
     requires { ⌜ ((i : ℕ) → i < k → RowRanged (now ranks) (now rows) i) ⌝ }
     ensures { λ r. ⌜ r .rules ≤ k ⌝ }
     ensures { λ r. ⌜ ((S : Stage) → Sound S → Has (finals .words) (among (S .finals))
         → rulesIn (now (ranks .entry)) (now (rows .entry)) k ≡ S .rules
-        → Has (r .states .words) (among (kept S))
+        → Has (r .kept .words) (among (kept S))
         × (rulesIn (now (ranks .entry)) (now (rows .exit)) (r .rules) ≡ restricted S .rules)) ⌝ }
 {
     let states = reachable(finals, k, ranks, rows);
     let mut marks: [bool; 1024] = [false; 1024];
     mark_targets(states, k, rows, &mut marks);
     let rules = compact(rows, k, &marks);
-    Left { states, rules }
+    Restricted {
+        kept: states,
+        rules,
+    }
 }
 
 // How many states are kept, and the final ones among them by their new numbers.
@@ -174,10 +192,10 @@ fn shorten(
 {
     let n = size.states;
     let grouped = group(words, states, finals, n, size.rules, ranks, rows);
-    let blocks = grouped.states;
+    let blocks = grouped.finals;
     let undominated = prune(words, grouped.rules, ranks, rows);
     let reached = restrict(blocks, undominated, ranks, rows);
-    let kept = reached.states;
+    let kept = reached.kept;
     let rules = reached.rules;
     let numbered = renumber(kept, blocks, n, rules, ranks, rows);
     let left = numbered.finals;
@@ -208,7 +226,7 @@ pub fn reduce_rows(
 {
     let n = size.states;
     let trimmed = trim(size.rules, ranks, rows);
-    let states = trimmed.states;
+    let states = trimmed.productive;
     let rules = trimmed.rules;
     let relation = simulate(states, n, rules, ranks, rows);
     let left = Size {

@@ -26,7 +26,7 @@ use Rattle.automaton.proofs.Meaning.{Held}
 use Rattle.simulation.specs.Tree.{Tree, any, accepts}
 use Rattle.simulation.specs.Postfix.{pushAll, single, isTreeRecord, judgeTree}
 use Rattle.simulation.specs.Check.{acceptance}
-use Rattle.simulation.specs.Inner.{Holds, heightOf, Stacked, stackAcceptance, nodesAcceptance, treeAcceptance}
+use Rattle.simulation.specs.Inner.{Represents, heightOf, Stacked, stackAcceptance, nodesAcceptance, treeAcceptance}
 use Rattle.simulation.specs.declared.evaluation.Height.{Height}
 use Rattle.simulation.specs.declared.evaluation.Height.the-variants.{At, Refused}
 use Rattle.simulation.proofs.Stacks.{any-keep, any-same}
@@ -42,9 +42,9 @@ module _ (rules : List Rule) (finals : List ℕ) where
   not-one (t ∷ (s ∷ ts)) height e other = refl
 
 pub one-answer : (rules : List Rule) (kept : ℕ → Bool) (n : ℕ) → n ≤ 256 → (words : List ℕ) (trees : List Tree)
-    → length trees ≡ 1 → Holds rules words trees
+    → length trees ≡ 1 → Represents rules words trees
     → stackAcceptance rules (keep kept (from 0 n)) trees ≡ found (any (member words) (keep kept (from 0 n)))
-unfolding stackAcceptance single _>>=_ Holds
+unfolding stackAcceptance single _>>=_ Represents
 one-answer rules kept n few words [] e h = absurd (omega arith)
 one-answer rules kept n few words (t ∷ (s ∷ ts)) e h = absurd (omega arith)
 one-answer rules kept n few words (t ∷ []) e h =
@@ -61,13 +61,13 @@ module _ (A : Automaton) (symbols : List ℕ) (words : List ℕ) (answer : Heigh
   nodes-refused cause e = sym (rw (length-refused (pushAll (A .ranks) [] symbols) (rw e at (s .height))))
 
   pub nodes-found : (height : ℕ) → answer ≡ At height → (r : Read Bool)
-      → ((trees : List Tree) → length trees ≡ height → Holds (A .rules) words trees
+      → ((trees : List Tree) → length trees ≡ height → Represents (A .rules) words trees
       → r ≡ stackAcceptance (A .rules) (A .finals) trees)
       → r ≡ nodesAcceptance A symbols
   unfolding nodesAcceptance heightOf _>>=_
   nodes-found height e r is =
       let (trees, finds, tall) = length-found (pushAll (A .ranks) [] symbols) (rw e at (s .height)) in
-      is trees tall (s .holds trees finds) ∙ sym (ap (λ (x : Read (List Tree)). x >>= stackAcceptance (A .rules) (A .finals)) finds)
+      is trees tall (s .represents trees finds) ∙ sym (ap (λ (x : Read (List Tree)). x >>= stackAcceptance (A .rules) (A .finals)) finds)
 
 -- The bytes.
 bind-bind : {A B C : Type 0} (x : Read A) (f : A → Read B) (g : B → Read C) → (x >>= f) >>= g ≡ x >>= (λ (a : A). f a >>= g)

@@ -1,14 +1,19 @@
--- With which causes a tree is refused, 8 to 11, and with which a check and the queries.
+-- With which causes a tree is refused, 8 to 11, and with which a check and the queries; and that a refusal leaves the output.
 use Prim.Native.Nat.{ℕ, _≤_}
 use native.Mathlib.Omega.{arith}
+use mathlib.Core.Path.{_≡_, refl}
 use mathlib.Core.Logic.{inr}
 use mathlib.Core.List.{List, [], _∷_}
+use Rattle.automaton.specs.Automaton.{Automaton}
+use Rattle.automaton.specs.Read.{Read, found, refused, _>>=_}
+use Rattle.automaton.specs.Table.{judge}
 use Rattle.automaton.specs.Decoded.{written}
 use Rattle.automaton.proofs.Causes.{Causes, finds, wider-causes, bind-causes, causes, table-causes, TableCauseOr, table-causes-or}
+use Rattle.automaton.proofs.Leaving.{Keeps, then-keeps, written-keeps}
 use Rattle.simulation.specs.Tree.{Tree}
 use Rattle.simulation.specs.Postfix.{push, pushAll, single, judgeTree}
 use Rattle.simulation.specs.Check.{acceptance}
-use Rattle.simulation.specs.Query.{relationQuery, pairQuery}
+use Rattle.simulation.specs.Query.{relationQuery, relationAfter, pairQuery}
 
 abbrev pub TreeCause : ℕ → Type 0
 TreeCause cause = (8 ≤ cause) × (cause ≤ 11)
@@ -46,3 +51,11 @@ relation-causes table out = search (causes, table-causes-or 13, inr) depth 9
 pub pair-causes : (table : List ℕ) (q r : ℕ) → Causes (TableCauseOr 12) (pairQuery table q r)
 unfolding pairQuery
 pair-causes table q r = search (causes, table-causes-or 12, inr) depth 9
+
+pub relation-keeps : (table out : List ℕ) → Keeps (relationQuery table out) (relationAfter (judge table) out) out
+unfolding relationQuery relationAfter _>>=_
+relation-keeps table out cause e = go (judge table) refl
+  where
+    go : (j : Read Automaton) → judge table ≡ j → relationAfter j out ≡ out
+    go (found A) f = then-keeps (written _ out) _ (written-keeps _ out) cause (rw f at e)
+    go (refused other) f = refl

@@ -20,10 +20,10 @@ use Rattle.automaton.specs.declared.refusal.Refusal.{Refusal}
 use Rattle.simulation.specs.Tree.{Tree, node, any}
 use Rattle.simulation.specs.Postfix.{treesIn, push, pushAll}
 use Rattle.simulation.specs.Words.{rulesIn}
-use Rattle.simulation.specs.Inner.{RowRanged, keyed, leadsTo, Holds, heightOf, Stacked}
+use Rattle.simulation.specs.Inner.{RowRanged, keyed, leadsTo, Represents, heightOf, Stacked}
 use Rattle.simulation.specs.declared.evaluation.Height.{Height}
 use Rattle.simulation.specs.declared.evaluation.Height.the-variants.{At, Refused}
-use Rattle.simulation.proofs.Stacks.{holds-put, node-belongs}
+use Rattle.simulation.proofs.Stacks.{represents-put, node-belongs}
 
 -- One node.
 module _ (m : ℕ) (ranks : List ℕ) (room : m ≤ length ranks) (trees : List Tree) (f : ℕ) where
@@ -76,32 +76,32 @@ pub stacked-refused : (rules : List Rule) (stack : Read (List Tree)) (words : Li
 unfolding mapRead
 stacked-refused rules stack words answer e h = record {
   height = h ∙ sym (rw e);
-  holds = λ trees is. absurd (refused≢found (sym e ∙ is));
+  represents = λ trees is. absurd (refused≢found (sym e ∙ is));
 }
 
 -- A node whose children are there: its set stands where theirs stood.
 pub stacked-node : (m k : ℕ) (ranks rows : List ℕ) → m ≤ length ranks → 10 * k ≤ length rows
     → ((i : ℕ) → i < k → RowRanged ranks rows i) → (stack : List ℕ) (trees : List Tree) (height f : ℕ) → length trees ≡ height
-    → Holds (rulesIn ranks rows k) stack trees → f < m → getD ranks f 0 ≤ height → height - getD ranks f 0 < 1024
+    → Represents (rulesIn ranks rows k) stack trees → f < m → getD ranks f 0 ≤ height → height - getD ranks f 0 < 1024
     → 4 * (height - getD ranks f 0 + 1) ≤ length stack → (ws : List ℕ) → length ws ≡ 4
     → ((q : ℕ) → q < 256
     → member ws q ≡ any (leadsTo ranks rows stack (height - getD ranks f 0) q) (keyed rows 0 f 0 k))
     → Stacked (rulesIn ranks rows k) (push (take m ranks) trees f) (over stack (4 * (height - getD ranks f 0)) ws)
     (At (height - getD ranks f 0 + 1))
 unfolding heightOf mapRead
-stacked-node m k ranks rows room rows-room ranged stack trees height f high holds known enough few long ws four is =
+stacked-node m k ranks rows room rows-room ranged stack trees height f high represents known enough few long ws four is =
     let below : length (drop (getD ranks f 0) trees) ≡ length trees - getD ranks f 0 = length-drop (getD ranks f 0) trees in
     let e = push-finds m ranks room trees f known (omega arith) (omega arith) in
     record {
       height = rw e (ap found (omega arith));
-      holds = λ next found-next.
+      represents = λ next found-next.
           let same : node f (treesIn (reverse (take (getD ranks f 0) trees))) ∷ drop (getD ranks f 0) trees ≡ next = cc in
           rw (← same)
-          (holds-put (rulesIn ranks rows k) stack (getD ranks f 0) trees _ ws (height - getD ranks f 0) (omega arith) four
+          (represents-put (rulesIn ranks rows k) stack (getD ranks f 0) trees _ ws (height - getD ranks f 0) (omega arith) four
           (omega arith)
           (λ q low. is q low
-          ∙ node-belongs ranks rows k rows-room ranged stack trees holds f (omega arith) _ q (omega arith))
-          holds);
+          ∙ node-belongs ranks rows k rows-room ranged stack trees represents f (omega arith) _ q (omega arith))
+          represents);
     }
 
 -- What an answer says of the stack.
@@ -136,12 +136,12 @@ module _ (rules : List Rule) (ranks b : List ℕ) where
     pub tall : length trees ≡ height
     pub low : height ≤ 1024
     pub few : 2 * height ≤ i
-    pub holds : Holds rules words trees
+    pub represents : Represents rules words trees
     pub left : pushAll ranks [] (numbers b) ≡ pushAll ranks trees (numbers (drop i b))
 
   pub reading-all : (words : List ℕ) → Reading words 0 0
-  unfolding Holds
-  reading-all words = record { trees = []; tall = refl; low = omega arith; few = omega arith; holds = tt; left = refl }
+  unfolding Represents
+  reading-all words = record { trees = []; tall = refl; low = omega arith; few = omega arith; represents = tt; left = refl }
 
   module _ {words : List ℕ} {height i : ℕ} (r : Reading words height i) where
     pub reading-none : length b ≤ i + 1 → Stacked rules (pushAll ranks [] (numbers b)) words (At height)
@@ -150,7 +150,7 @@ module _ (rules : List Rule) (ranks b : List ℕ) where
         let e : pushAll ranks [] (numbers b) ≡ found (r .trees) = r .left ∙ rw (numbers-end b i h) in
         record {
           height = rw e (ap found (sym (r .tall)));
-          holds = λ trees is. let same : r .trees ≡ trees = cc in rw (← same) (r .holds);
+          represents = λ trees is. let same : r .trees ≡ trees = cc in rw (← same) (r .represents);
         }
 
     module _ (h : i + 1 < length b) (f : ℕ) (is : f ≡ number2 (drop i b)) (words′ : List ℕ) (answer : Height)
@@ -182,6 +182,6 @@ module _ (rules : List Rule) (ranks b : List ℕ) where
             tall = tall;
             low = omega (arith, low .0);
             few = omega (arith, low .1, r .tall, r .few);
-            holds = s .holds next finds;
+            represents = s .represents next finds;
             left = left-found next finds;
           }

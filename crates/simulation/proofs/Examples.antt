@@ -12,7 +12,7 @@ use Rattle.automaton.specs.Read.{refused, _>>=_, _>>_, check}
 use Rattle.automaton.proofs.Examples.{rule, T}
 use Rattle.simulation.specs.Tree.{Tree, node, nil, cons, any, belongs, accepts}
 use Rattle.simulation.specs.Postfix.{treesIn, push, pushAll, single, isTreeRecord, judgeTree}
-use Rattle.simulation.specs.Simulation.{related, paired, matches, matched, every, holds, refine}
+use Rattle.simulation.specs.Simulation.{related, paired, matchedBy, matched, every, survives, refine}
 use Rattle.simulation.specs.Simulation.{allPairs, relationAt, settle, rounds, relation}
 use Rattle.simulation.specs.Query.{simulationOf, roundsOf, Unmatched}
 
@@ -45,7 +45,7 @@ pub record Bench : Type 0 where
   B12 : related (simulationOf C) 2 3 ≡ false
 
 pub bench : Bench
-unfolding simulationOf roundsOf relation relationAt rounds settle allPairs refine keep holds matched every matches paired related any from
+unfolding simulationOf roundsOf relation relationAt rounds settle allPairs refine keep survives matched every matchedBy paired related any from
     accepts belongs judgeTree isTreeRecord pushAll push single treesIn opened isWhole endOf bodyOf bodyIn number2 number4 numbers
     encodeRecord bytes2 bytes4 fields check _>>=_ _>>_
 bench = record {

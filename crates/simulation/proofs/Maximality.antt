@@ -11,11 +11,11 @@ use borrow.Author.Tests.{eq-eqb, eqb-true}
 use Rattle.automaton.specs.Lists.{keep}
 use Rattle.automaton.specs.Automaton.{Rule}
 use Rattle.automaton.proofs.Keeping.{keep-append, keep-shorter}
-use Rattle.simulation.specs.Simulation.{Each, Matched, Simulates, Relation, holds}
+use Rattle.simulation.specs.Simulation.{Each, Matched, Simulates, Relation, survives}
 use Rattle.simulation.specs.Simulation.{refine, allPairs, relationAt, rounds, relation}
 use Rattle.simulation.proofs.Search.{and-true-in}
 use Rattle.simulation.proofs.Refinement.{Within, related-member, member-related, pair-member, member-pair}
-use Rattle.simulation.proofs.Refinement.{refine-related, refine-out, holds-matched, matched-holds}
+use Rattle.simulation.proofs.Refinement.{refine-related, refine-out, survives-matched, matched-survives}
 use Rattle.simulation.proofs.Refinement.{refine-shorter, refine-all}
 use Rattle.simulation.proofs.Refinement.{rounds-fixed, rounds-least}
 use Rattle.simulation.proofs.Language.{each-map, each-refl, simulates-compose}
@@ -60,7 +60,7 @@ module _ (rules : List Rule) (states : List ℕ) where
   within-round D simulates inside (suc j) q r d =
       refine-related rules (relationAt rules states j) q r
       ∙ and-true-in (within-round D simulates inside j q r d)
-      (matched-holds rules (relationAt rules states j) q r
+      (matched-survives rules (relationAt rules states j) q r
       (λ u m e. matched-map (within-round D simulates inside j) (simulates q r d u m e)))
 
   pub same-round : Closed rules states → (j q r : ℕ) → Same states q r → Within (relationAt rules states j) q r
@@ -79,7 +79,7 @@ module _ (rules : List Rule) (states : List ℕ) where
   pub relation-simulates : Simulates rules rules (Within (relation rules states))
   unfolding Simulates
   relation-simulates q r e =
-      let R = relation rules states in holds-matched rules R q r (refine-out rules R q r (rw relation-fixed e) .1)
+      let R = relation rules states in survives-matched rules R q r (refine-out rules R q r (rw relation-fixed e) .1)
 
   pub relation-largest : (D : ℕ → ℕ → Type 0) → Simulates rules rules D
       → ((q r : ℕ) → D q r → List·Memᴰ q states × List·Memᴰ r states)
@@ -161,7 +161,7 @@ module _ (rules : List Rule) (states : List ℕ) where
   diagonal-round closed zero = diagonal-pairs states states (λ q m. m)
   diagonal-round closed (suc j) =
       let R = relationAt rules states j in
-      rw (diagonal-kept (holds rules R) R
+      rw (diagonal-kept (survives rules R) R
       (λ p m e. refine-out rules R (p .0) (p .1) (same-round rules states closed (suc j) (p .0) (p .1)
       (e, round-states rules states j (p .0) (p .1) (member-related m) .0)) .1))
       (diagonal-round closed j)

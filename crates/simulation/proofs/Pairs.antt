@@ -8,8 +8,8 @@ use lib.ListN.{length, length-append}
 use Rattle.automaton.specs.Lists.{keep}
 use Rattle.automaton.specs.Automaton.{Rule}
 use Rattle.automaton.proofs.Keeping.{keep-append, keep-both, keep-agree, keep-all}
-use Rattle.simulation.specs.Simulation.{Simulates, Matched, related, holds, refine, allPairs, relationAt, rounds, relation}
-use Rattle.simulation.proofs.Refinement.{Within, member-related, refine-related, holds-matched}
+use Rattle.simulation.specs.Simulation.{Simulates, Matched, related, survives, refine, allPairs, relationAt, rounds, relation}
+use Rattle.simulation.proofs.Refinement.{Within, member-related, refine-related, survives-matched}
 use Rattle.simulation.proofs.Maximality.{matched-map, relation-simulates, relation-largest, relation-states}
 
 module _ (rules : List Rule) (states : List ℕ) where
@@ -17,10 +17,10 @@ module _ (rules : List Rule) (states : List ℕ) where
   With : ℕ → ℕ → ℕ → ℕ → Type 0
   With q r p s = Within (relation rules states) p s ⊎ ((p ≡ q) × (s ≡ r))
 
-  pub holds-related : (q r : ℕ) → List·Memᴰ q states → List·Memᴰ r states → holds rules (relation rules states) (q, r) ≡ true
+  pub survives-related : (q r : ℕ) → List·Memᴰ q states → List·Memᴰ r states → survives rules (relation rules states) (q, r) ≡ true
       → Within (relation rules states) q r
   unfolding With Simulates
-  holds-related q r mq mr h =
+  survives-related q r mq mr h =
       let R = relation rules states in
       relation-largest rules states (With q r)
       (λ p s d u m e. answer p s d u m e)
@@ -30,7 +30,7 @@ module _ (rules : List Rule) (states : List ℕ) where
       answer : (p s : ℕ) → With q r p s → (u : Rule) → List·Memᴰ u rules → u .target ≡ p → Matched (With q r) rules s u
       answer p s (inl w) u m e = matched-map (λ a b x. inl x) (relation-simulates rules states p s w u m e)
       answer p s (inr d) u m e =
-          rw (d .1) (matched-map (λ a b x. inl x) (holds-matched rules (relation rules states) q r h u m (e ∙ d .0)))
+          rw (d .1) (matched-map (λ a b x. inl x) (survives-matched rules (relation rules states) q r h u m (e ∙ d .0)))
 
       inside : (p s : ℕ) → With q r p s → List·Memᴰ p states × List·Memᴰ s states
       inside p s (inl w) = relation-states rules states p s w
@@ -67,9 +67,9 @@ module _ (rules : List Rule) (states : List ℕ) where
   kept-round (suc j) =
       let R = relationAt rules states j in
       let before : ℕ × ℕ → Bool = λ (p : ℕ × ℕ). related R (p .0) (p .1) in
-      ap (keep (holds rules R)) (kept-round j)
-      ∙ keep-both (holds rules R) before (allPairs states states)
-      ∙ keep-agree (λ (p : ℕ × ℕ). before p && holds rules R p) _
+      ap (keep (survives rules R)) (kept-round j)
+      ∙ keep-both (survives rules R) before (allPairs states states)
+      ∙ keep-agree (λ (p : ℕ × ℕ). before p && survives rules R p) _
       (allPairs states states) (λ p m. sym (refine-related rules R (p .0) (p .1)))
 
   pub relation-length : length (relation rules states) ≡ pairsIn (related (relation rules states)) states states

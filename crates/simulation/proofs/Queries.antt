@@ -21,7 +21,7 @@ use Rattle.automaton.specs.Decoded.{Decodes, sized, ruleAt, automatonIn}
 use Rattle.automaton.specs.Answers.{judgementOf}
 use Rattle.automaton.specs.Inner.{over}
 use Rattle.automaton.specs.declared.refusal.Refusal.{Refusal}
-use Rattle.automaton.specs.declared.refusal.Refusal.the-variants.{State, Room}
+use Rattle.automaton.specs.declared.refusal.Refusal.the-variants.{UnknownState, ShortOutput}
 use Rattle.automaton.specs.declared.table.Size.{Size}
 use Rattle.automaton.specs.declared.table.Judged.the-variants as judged
 use Rattle.automaton.specs.declared.decoding.Decoded.{Decoded}
@@ -29,7 +29,7 @@ use Rattle.automaton.proofs.Inversion.{refused≢found}
 use Rattle.automaton.proofs.Meaning.{Held}
 use Rattle.automaton.proofs.WrittenBytes.{length-from, few-states, few-rules, room-enough, room-short}
 use Rattle.simulation.specs.Tree.{any}
-use Rattle.simulation.specs.Simulation.{Relation, related, paired, matches, matched, holds, every, relation, rounds}
+use Rattle.simulation.specs.Simulation.{Relation, related, paired, matchedBy, matched, survives, every, relation, rounds}
 use Rattle.simulation.specs.Query.{simulationOf, roundsOf, relationBytes, relatedOf, relationQuery, relationAfter}
 use Rattle.simulation.specs.Query.{rule, comparisonOf, isYes, pairQuery, Unmatched, Compares}
 use Rattle.simulation.specs.declared.query.Compared.the-variants as compared
@@ -37,7 +37,7 @@ use Rattle.simulation.specs.declared.query.Related.the-variants as answe
 use Rattle.simulation.specs.Words.{statesIn, rulesIn, relationWords}
 use Rattle.simulation.specs.Inner.{RowRanged, StatesBelow, bytesOf, onesOf, firstFailing, firstUnmatched}
 use Rattle.simulation.proofs.RelationWords.{all-states-in, bytes-rows, ones-pairs}
-use Rattle.simulation.proofs.Pairs.{pairsIn, holds-related, relation-length}
+use Rattle.simulation.proofs.Pairs.{pairsIn, survives-related, relation-length}
 use Rattle.simulation.proofs.Ranges.{from-member}
 use Rattle.simulation.proofs.Ranged as ranged
 use Rattle.simulation.proofs.Preorder.{preorder-states}
@@ -61,16 +61,16 @@ ranged-children {ranks} {rows} {i} h count e = λ j l.
 -- Two rows.
 
 module _ (R : Relation) (ranks rows : List ℕ) (i j : ℕ) where
-  pub matches-other : (getD rows (10 * j) 0 ≡ getD rows (10 * i) 0 → ⊥)
-      → matches R (ruleAt ranks rows i) (ruleAt ranks rows j) ≡ false
-  unfolding matches ruleAt
-  matches-other d = and-false-left _ (ne-eqb _ _ (λ e. d (sym e)))
+  pub matched-by-other : (getD rows (10 * j) 0 ≡ getD rows (10 * i) 0 → ⊥)
+      → matchedBy R (ruleAt ranks rows i) (ruleAt ranks rows j) ≡ false
+  unfolding matchedBy ruleAt
+  matched-by-other d = and-false-left _ (ne-eqb _ _ (λ e. d (sym e)))
 
-  pub matches-same : getD rows (10 * j) 0 ≡ getD rows (10 * i) 0 → matches R (ruleAt ranks rows i) (ruleAt ranks rows j)
+  pub matched-by-same : getD rows (10 * j) 0 ≡ getD rows (10 * i) 0 → matchedBy R (ruleAt ranks rows i) (ruleAt ranks rows j)
       ≡ paired R (take (getD ranks (getD rows (10 * i) 0) 0) (drop (10 * i + 2) rows))
       (take (getD ranks (getD rows (10 * i) 0) 0) (drop (10 * j + 2) rows))
-  unfolding matches ruleAt
-  matches-same e =
+  unfolding matchedBy ruleAt
+  matched-by-same e =
       and-left _ (eq-eqb (getD rows (10 * i) 0) (getD rows (10 * j) 0) (sym e))
       ∙ ap (λ (f : ℕ). paired R (take (getD ranks (getD rows (10 * i) 0) 0) (drop (10 * i + 2) rows))
       (take (getD ranks f 0) (drop (10 * j + 2) rows))) e
@@ -92,7 +92,7 @@ paired-next R rows a b count j h la lb =
 
 -- Rule v has target r and matches rule i; u has another target than q or a match of target r.
 abbrev pub answers : List ℕ → List ℕ → Relation → ℕ → ℕ → Rule → Bool
-answers ranks rows R r i v = eqb (v .target) r && matches R (ruleAt ranks rows i) v
+answers ranks rows R r i v = eqb (v .target) r && matchedBy R (ruleAt ranks rows i) v
 
 abbrev pub answered : List Rule → Relation → ℕ → ℕ → Rule → Bool
 answered rules R q r u = not (eqb (u .target) q) || matched rules R r u
@@ -229,7 +229,7 @@ module _ (b out : List ℕ) (A : Automaton) (w : WellFormed A) (e : judge b ≡ 
       go q r h false f = refl
 
   pub query-short : length out < 32 * A .states
-      → (relatedOf (answer.Refused Room) ≡ relationQuery b out) × (out ≡ relationAfter (judge b) out)
+      → (relatedOf (answer.Refused ShortOutput) ≡ relationQuery b out) × (out ≡ relationAfter (judge b) out)
   unfolding relatedOf relationQuery relationAfter _>>=_ _>>_
   query-short h =
       let short = room-short (relationBytes A) out (rw length-bytes h) in
@@ -260,7 +260,7 @@ module _ (b : List ℕ) (q r : ℕ) (A : Automaton) (e : judge b ≡ found A) wh
   outside (inl h) = and-false-left (ltb r (A .states)) (le-ltb q (A .states) h)
   outside (inr h) = and-false-right (ltb q (A .states)) (le-ltb r (A .states) h)
 
-  pub compares-outside : (A .states ≤ q) ⊎ (A .states ≤ r) → Compares b q r (compared.Refused State)
+  pub compares-outside : (A .states ≤ q) ⊎ (A .states ≤ r) → Compares b q r (compared.Refused UnknownState)
   unfolding comparisonOf isYes mapRead pairQuery _>>=_ _>>_ check
   compares-outside h = record {
     verdict = rw (e, outside h);
@@ -279,23 +279,23 @@ module _ (b : List ℕ) (q r : ℕ) (A : Automaton) (e : judge b ≡ found A) wh
     }
 
     -- Were every rule of q matched, the pair would be in the relation.
-    unmatched-holds : related (simulationOf A) q r ≡ false → holds (A .rules) (simulationOf A) (q, r) ≡ false
+    unmatched-survives : related (simulationOf A) q r ≡ false → survives (A .rules) (simulationOf A) (q, r) ≡ false
     unfolding simulationOf
-    unmatched-holds h = go (holds (A .rules) (simulationOf A) (q, r)) refl
+    unmatched-survives h = go (survives (A .rules) (simulationOf A) (q, r)) refl
       where
-        go : (t : Bool) → holds (A .rules) (simulationOf A) (q, r) ≡ t → t ≡ false
+        go : (t : Bool) → survives (A .rules) (simulationOf A) (q, r) ≡ t → t ≡ false
         go true f =
             sym
-            (holds-related (A .rules) (from 0 (A .states)) q r (from-member (A .states) 0 q (omega arith) (omega arith))
+            (survives-related (A .rules) (from 0 (A .states)) q r (from-member (A .states) 0 q (omega arith) (omega arith))
             (from-member (A .states) 0 r (omega arith) (omega arith)) f)
             ∙ h
         go false f = refl
 
     first-unmatched : related (simulationOf A) q r ≡ false
         → Unmatched A q r (firstUnmatched (A .rules) (simulationOf A) q r)
-    unfolding holds firstUnmatched
+    unfolding survives firstUnmatched
     first-unmatched h =
-        let f = first-fails (answered (A .rules) (simulationOf A) q r) (A .rules) (unmatched-holds h) in
+        let f = first-fails (answered (A .rules) (simulationOf A) q r) (A .rules) (unmatched-survives h) in
         let u = f .element in
         let s = or-false-out (not (eqb (u .target) q)) (matched (A .rules) (simulationOf A) r u) (f .fails) in
         record {

@@ -14,7 +14,7 @@ use Rattle.automaton.specs.Lists.{keep}
 use Rattle.automaton.specs.Automaton.{Rule}
 use Rattle.automaton.proofs.Keeping.{keep-shorter, keep-full}
 use Rattle.simulation.specs.Tree.{any}
-use Rattle.simulation.specs.Simulation.{Each, none, also, Matched, Relation, related, paired, matches, holds}
+use Rattle.simulation.specs.Simulation.{Each, none, also, Matched, Relation, related, paired, matchedBy, survives}
 use Rattle.simulation.specs.Simulation.{matched, refine, allPairs, relationAt, settle}
 use Rattle.simulation.specs.Simulation.{rounds, relation}
 use Rattle.simulation.proofs.Search.{and-true-out, and-true-in, any-in, any-out, every-in, every-out}
@@ -82,13 +82,13 @@ keep-related test (p ∷ ps) q r = go (eqb (p .0) q && eqb (p .1) r) refl (test 
     go false e false f rest = rest
 
 pub refine-related : (rules : List Rule) (R : Relation) (q r : ℕ)
-    → related (refine rules R) q r ≡ (related R q r && holds rules R (q, r))
+    → related (refine rules R) q r ≡ (related R q r && survives rules R (q, r))
 unfolding refine
-refine-related rules R = keep-related (holds rules R) R
+refine-related rules R = keep-related (survives rules R) R
 
 pub refine-out : (rules : List Rule) (R : Relation) (q r : ℕ) → Within (refine rules R) q r
-    → Within R q r × (holds rules R (q, r) ≡ true)
-refine-out rules R q r e = and-true-out (related R q r) (holds rules R (q, r)) (sym (refine-related rules R q r) ∙ e)
+    → Within R q r × (survives rules R (q, r) ≡ true)
+refine-out rules R q r e = and-true-out (related R q r) (survives rules R (q, r)) (sym (refine-related rules R q r) ∙ e)
 
 pub paired-each : (R : Relation) (qs rs : List ℕ) → paired R qs rs ≡ true → Each (Within R) qs rs
 unfolding paired
@@ -103,15 +103,15 @@ unfolding paired
 each-paired R none = refl
 each-paired R (also h hs) = and-true-in h (each-paired R hs)
 
-pub holds-matched : (rules : List Rule) (R : Relation) (q r : ℕ) → holds rules R (q, r) ≡ true
+pub survives-matched : (rules : List Rule) (R : Relation) (q r : ℕ) → survives rules R (q, r) ≡ true
     → (u : Rule) → List·Memᴰ u rules → u .target ≡ q → Matched (Within R) rules r u
-unfolding holds matched matches
-holds-matched rules R q r h u m e =
-    let answered : Rule → Bool = λ (w : Rule). any (λ (v : Rule). eqb (v .target) r && matches R w v) rules in
+unfolding survives matched matchedBy
+survives-matched rules R q r h u m e =
+    let answered : Rule → Bool = λ (w : Rule). any (λ (v : Rule). eqb (v .target) r && matchedBy R w v) rules in
     let f = every-out (λ (w : Rule). not (eqb (w .target) q) || answered w) h u m in
-    let s = any-out (λ (v : Rule). eqb (v .target) r && matches R u v) rules (rw (eq-eqb (u .target) q e) at f) in
+    let s = any-out (λ (v : Rule). eqb (v .target) r && matchedBy R u v) rules (rw (eq-eqb (u .target) q e) at f) in
     let v = s .element in
-    let a = and-true-out (eqb (v .target) r) (matches R u v) (s .passes) in
+    let a = and-true-out (eqb (v .target) r) (matchedBy R u v) (s .passes) in
     let b = and-true-out (eqb (u .symbol) (v .symbol)) (paired R (u .children) (v .children)) (a .1) in
     record {
       rule = v;
@@ -121,16 +121,16 @@ holds-matched rules R q r h u m e =
       children = paired-each R (u .children) (v .children) (b .1);
     }
 
-pub matched-holds : (rules : List Rule) (R : Relation) (q r : ℕ)
-    → ((u : Rule) → List·Memᴰ u rules → u .target ≡ q → Matched (Within R) rules r u) → holds rules R (q, r) ≡ true
-unfolding holds matched matches
-matched-holds rules R q r h = every-in _ rules (λ u m. go u m (eqb (u .target) q) refl)
+pub matched-survives : (rules : List Rule) (R : Relation) (q r : ℕ)
+    → ((u : Rule) → List·Memᴰ u rules → u .target ≡ q → Matched (Within R) rules r u) → survives rules R (q, r) ≡ true
+unfolding survives matched matchedBy
+matched-survives rules R q r h = every-in _ rules (λ u m. go u m (eqb (u .target) q) refl)
   where
     go : (u : Rule) → List·Memᴰ u rules → (t : Bool) → eqb (u .target) q ≡ t
-        → (not t || any (λ (v : Rule). eqb (v .target) r && matches R u v) rules) ≡ true
+        → (not t || any (λ (v : Rule). eqb (v .target) r && matchedBy R u v) rules) ≡ true
     go u m true e =
         let a = h u m (eqb-true (u .target) q e) in
-        any-in (λ (v : Rule). eqb (v .target) r && matches R u v) (a .is-rule)
+        any-in (λ (v : Rule). eqb (v .target) r && matchedBy R u v) (a .is-rule)
         (and-true-in (eq-eqb _ r (a .target)) (and-true-in (eq-eqb _ _ (a .symbol)) (each-paired R (a .children))))
     go u m false e = refl
 
@@ -138,11 +138,11 @@ matched-holds rules R q r h = every-in _ rules (λ u m. go u m (eqb (u .target) 
 
 pub refine-shorter : (rules : List Rule) (R : Relation) → length (refine rules R) ≤ length R
 unfolding refine
-refine-shorter rules R = keep-shorter (holds rules R) R
+refine-shorter rules R = keep-shorter (survives rules R) R
 
 pub refine-all : (rules : List Rule) (R : Relation) → length (refine rules R) ≡ length R → refine rules R ≡ R
 unfolding refine
-refine-all rules R = keep-full (holds rules R) R
+refine-all rules R = keep-full (survives rules R) R
 
 module _ (rules : List Rule) (states : List ℕ) where
   -- Where `settle` stops that starts in round j.

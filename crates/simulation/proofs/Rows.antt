@@ -17,7 +17,7 @@ use Rattle.automaton.specs.Automaton.{Rule}
 use Rattle.automaton.specs.StateSet.{member, words, emptySet, replaced, withState, withAll, setOf}
 use Rattle.automaton.proofs.Keeping.{keep-append}
 use Rattle.automaton.proofs.StateSets.{below-four, getD-words, member-with, member-setOf, length-setOf, same-members}
-use Rattle.simulation.specs.Simulation.{Relation, related, holds, refine, allPairs}
+use Rattle.simulation.specs.Simulation.{Relation, related, survives, refine, allPairs}
 use Rattle.simulation.specs.Words.{statesIn, rowWords, rowsWords}
 use Rattle.simulation.specs.Inner.{Has, relationIn}
 use Rattle.simulation.proofs.Ranges.{from-member, member-from, keep-none, elem-keep}
@@ -143,9 +143,9 @@ pub relation-next : (rules : List Rule) (last next : List (List ℕ))
 unfolding refine relationIn
 relation-next rules last next has =
     relation-is next
-    (λ (p : ℕ × ℕ). member (getD last (p .0) []) (p .1) && holds rules (relationIn last) p)
+    (λ (p : ℕ × ℕ). member (getD last (p .0) []) (p .1) && survives rules (relationIn last) p)
     (λ q h r l. has q h r l ∙ refine-related rules (relationIn last) q r ∙ rw (related-in last q r h l))
-    ∙ sym (keep-pairs-twice (λ (p : ℕ × ℕ). member (getD last (p .0) []) (p .1)) (holds rules (relationIn last))
+    ∙ sym (keep-pairs-twice (λ (p : ℕ × ℕ). member (getD last (p .0) []) (p .1)) (survives rules (relationIn last))
     (allPairs (from 0 256) (from 0 256)))
 
 pub relation-same : (last next : List (List ℕ)) → ((q : ℕ) → q < 256 → getD next q [] ≡ getD last q [])

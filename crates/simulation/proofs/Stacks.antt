@@ -19,7 +19,7 @@ use Rattle.automaton.proofs.StateSets.{words-getD}
 use Rattle.simulation.specs.Tree.{Tree, node, any, belongs, belongInOrder}
 use Rattle.simulation.specs.Postfix.{treesIn}
 use Rattle.simulation.specs.Words.{rulesIn}
-use Rattle.simulation.specs.Inner.{RowRanged, keyed, inOrder, leadsTo, Holds}
+use Rattle.simulation.specs.Inner.{RowRanged, keyed, inOrder, leadsTo, Represents}
 
 -- A set put at an entry.
 
@@ -86,30 +86,30 @@ module _ (rules : List Rule) where
   same-entry stack other e q h same =
       rw (getD-drop (4 * e) other, getD-drop (4 * e) stack, same (4 * e + q / 64) (omega arith))
 
-  holds-same : (stack other : List ℕ) (ts : List Tree) → ((i : ℕ) → i < 4 * length ts → getD other i 0 ≡ getD stack i 0)
-      → Holds rules stack ts → Holds rules other ts
-  unfolding Holds
-  holds-same stack other [] same h = tt
-  holds-same stack other (t ∷ ts) same h = (
+  represents-same : (stack other : List ℕ) (ts : List Tree) → ((i : ℕ) → i < 4 * length ts → getD other i 0 ≡ getD stack i 0)
+      → Represents rules stack ts → Represents rules other ts
+  unfolding Represents
+  represents-same stack other [] same h = tt
+  represents-same stack other (t ∷ ts) same h = (
     λ q low. same-entry stack other (length ts) q low (λ i l. same i (omega arith)) ∙ h .0 q low,
-    holds-same stack other ts (λ i l. same i (omega arith)) (h .1),
+    represents-same stack other ts (λ i l. same i (omega arith)) (h .1),
   )
 
-  holds-drop : (stack : List ℕ) (n : ℕ) (ts : List Tree) → Holds rules stack ts → Holds rules stack (drop n ts)
-  unfolding Holds
-  holds-drop stack zero ts h = h
-  holds-drop stack (suc n) [] h = h
-  holds-drop stack (suc n) (t ∷ ts) h = holds-drop stack n ts (h .1)
+  represents-drop : (stack : List ℕ) (n : ℕ) (ts : List Tree) → Represents rules stack ts → Represents rules stack (drop n ts)
+  unfolding Represents
+  represents-drop stack zero ts h = h
+  represents-drop stack (suc n) [] h = h
+  represents-drop stack (suc n) (t ∷ ts) h = represents-drop stack n ts (h .1)
 
   -- A tree put on the stack with its set.
-  pub holds-put : (stack : List ℕ) (n : ℕ) (ts : List Tree) (t : Tree) (ws : List ℕ) (e : ℕ) → e ≡ length (drop n ts)
+  pub represents-put : (stack : List ℕ) (n : ℕ) (ts : List Tree) (t : Tree) (ws : List ℕ) (e : ℕ) → e ≡ length (drop n ts)
       → length ws ≡ 4 → 4 * e + 4 ≤ length stack → ((q : ℕ) → q < 256 → member ws q ≡ belongs rules t q)
-      → Holds rules stack ts → Holds rules (over stack (4 * e) ws) (t ∷ drop n ts)
-  unfolding Holds
-  holds-put stack n ts t ws e at four room is h = (
+      → Represents rules stack ts → Represents rules (over stack (4 * e) ws) (t ∷ drop n ts)
+  unfolding Represents
+  represents-put stack n ts t ws e at four room is h = (
     λ q low. rw (← at) (entry-put stack e ws q four room low ∙ is q low),
-    holds-same stack (over stack (4 * e) ws) (drop n ts)
-        (λ i l. over-below stack (4 * e) ws i (omega arith) (omega arith)) (holds-drop stack n ts h),
+    represents-same stack (over stack (4 * e) ws) (drop n ts)
+        (λ i l. over-below stack (4 * e) ws i (omega arith) (omega arith)) (represents-drop stack n ts h),
   )
 
 -- The children of a node, the last on top of the stack.
@@ -125,34 +125,34 @@ in-order-append stack e (p ∷ ps) q =
 
 module _ (rules : List Rule) (stack : List ℕ) where
   in-order-aux : (r : ℕ) (ts acc : List Tree) (qs : List ℕ) → r ≤ length ts → r ≤ length qs
-      → ((j : ℕ) → j < r → getD qs j 0 < 256) → Holds rules stack ts
+      → ((j : ℕ) → j < r → getD qs j 0 < 256) → Represents rules stack ts
       → belongInOrder rules (treesIn (reverseAux (take r ts) acc)) qs
       ≡ (inOrder stack (length ts - r) (take r qs) && belongInOrder rules (treesIn acc) (drop r qs))
-  unfolding inOrder Holds treesIn belongInOrder
-  in-order-aux zero ts acc qs h l low holds = refl
-  in-order-aux (suc r) [] acc qs h l low holds = absurd (omega arith)
-  in-order-aux (suc r) (t ∷ ts) acc qs h l low holds =
+  unfolding inOrder Represents treesIn belongInOrder
+  in-order-aux zero ts acc qs h l low represents = refl
+  in-order-aux (suc r) [] acc qs h l low represents = absurd (omega arith)
+  in-order-aux (suc r) (t ∷ ts) acc qs h l low represents =
       let e : ℕ = length ts - r in
       let base : suc (length ts) - suc r ≡ e = omega arith in
       let q : ℕ = getD qs r 0 in
       let place : e + length (take r qs) ≡ length ts = rw (length-take-le r qs (omega arith)) (omega arith) in
-      in-order-aux r ts (t ∷ acc) qs (omega arith) (omega arith) (λ j k. low j (omega arith)) (holds .1)
+      in-order-aux r ts (t ∷ acc) qs (omega arith) (omega arith) (λ j k. low j (omega arith)) (represents .1)
       ∙ rw (
         base,
         drop-cons qs r 0 (omega arith),
         take-suc qs r 0 (omega arith),
         in-order-append stack e (take r qs) q,
         place,
-        holds .0 q (low r (omega arith)),
+        represents .0 q (low r (omega arith)),
       )
       (sym (and-assoc (inOrder stack e (take r qs)) (belongs rules t q) _))
 
   pub in-order-belongs : (r : ℕ) (ts : List Tree) (qs : List ℕ) → r ≤ length ts → length qs ≡ r
-      → ((j : ℕ) → j < r → getD qs j 0 < 256) → Holds rules stack ts
+      → ((j : ℕ) → j < r → getD qs j 0 < 256) → Represents rules stack ts
       → inOrder stack (length ts - r) qs ≡ belongInOrder rules (treesIn (reverse (take r ts))) qs
   unfolding treesIn belongInOrder
-  in-order-belongs r ts qs h l low holds =
-      sym (in-order-aux r ts [] qs h (omega arith) low holds
+  in-order-belongs r ts qs h l low represents =
+      sym (in-order-aux r ts [] qs h (omega arith) low represents
       ∙ rw (take-all r qs (omega arith), drop-of-length-le qs {i = r} (omega arith)) (and-true _))
 
 -- Searches.
@@ -202,7 +202,7 @@ module _ (test kept : ℕ → Bool) (q n : ℕ) where
 
 -- A node's states: the targets of the rules of its symbol whose children are in order among the topmost entries.
 module _ (ranks rows : List ℕ) (k : ℕ) (room : 10 * k ≤ length rows) (ranged : (i : ℕ) → i < k → RowRanged ranks rows i)
-    (stack : List ℕ) (ts : List Tree) (holds : Holds (rulesIn ranks rows k) stack ts)
+    (stack : List ℕ) (ts : List Tree) (represents : Represents (rulesIn ranks rows k) stack ts)
     (f : ℕ) (enough : getD ranks f 0 ≤ length ts) where
   row-belongs : (e q j : ℕ) → j < k → e ≡ length ts - getD ranks f 0 → (t : Bool) → eqb (getD rows (10 * j) 0) f ≡ t
       → (t && leadsTo ranks rows stack e q j)
@@ -221,7 +221,7 @@ module _ (ranks rows : List ℕ) (k : ℕ) (room : 10 * k ≤ length rows) (rang
       let inside : i < getD ranks (getD rows (10 * j) 0) 0 = omega arith in
       rw (getD-take _ (drop (10 * j + 2) rows) i 0 inside, getD-drop, place) (r .states (1 + i) (omega arith)) in
       ap (λ (t : Bool). eqb (getD rows (10 * j + 1) 0) q && t)
-      (rw base (in-order-belongs (rulesIn ranks rows k) stack (getD ranks f 0) ts qs enough long low holds))
+      (rw base (in-order-belongs (rulesIn ranks rows k) stack (getD ranks f 0) ts qs enough long low represents))
   row-belongs e q j h base false is = sym (and-false (eqb (getD rows (10 * j + 1) 0) q))
 
   pub node-belongs : (e q : ℕ) → e ≡ length ts - getD ranks f 0

@@ -15,7 +15,7 @@ use Rattle.simulation.specs.Run.{Reaches, Accepts}
 use Rattle.simulation.specs.Postfix.{judgeTree, postfix, encodeTree}
 use Rattle.simulation.specs.Check.{acceptance}
 use Rattle.simulation.specs.Simulation.{Simulates, related, relationAt}
-use Rattle.simulation.specs.Query.{simulationOf, roundsOf, relationQuery, pairQuery}
+use Rattle.simulation.specs.Query.{simulationOf, roundsOf, relationQuery, relationAfter, pairQuery}
 use Rattle.simulation.proofs.Runs as runs
 use Rattle.simulation.proofs.Language as language
 use Rattle.simulation.proofs.Refinement as refinement
@@ -93,3 +93,7 @@ relation-causes table out cause = cause-of (causes.relation-causes table out)
 
 pub pair-causes : (table : List ℕ) (q r cause : ℕ) → pairQuery table q r ≡ refused cause → ((1 ≤ cause) × (cause ≤ 7)) ⊎ (cause ≡ 12)
 pair-causes table q r cause = cause-of (causes.pair-causes table q r)
+
+-- A relation query that refuses leaves the output. Checks and pair queries are lent nothing that they could change.
+pub relation-leaves : (table out : List ℕ) (cause : ℕ) → relationQuery table out ≡ refused cause → relationAfter (judge table) out ≡ out
+relation-leaves = causes.relation-keeps

@@ -15,7 +15,7 @@ use Rattle.automaton.specs.StateSet.{member, words, emptySet, replaced, withSta
 use Rattle.automaton.proofs.StateSets.{member-empty, member-with}
 use Rattle.automaton.specs.Decoded.{ruleAt}
 use Rattle.simulation.specs.Tree.{any}
-use Rattle.simulation.specs.Simulation.{Relation, related, paired, matches, matched, holds, refine, allPairs}
+use Rattle.simulation.specs.Simulation.{Relation, related, paired, matchedBy, matched, survives, refine, allPairs}
 use Rattle.simulation.specs.Words.{rulesIn}
 use Rattle.simulation.specs.Inner.{Has, relationIn, isTouched, Quiet, EmptyFrom, Rounded}
 use Rattle.simulation.proofs.Search.{every-out, all-out}
@@ -40,7 +40,7 @@ module _ (R S : Relation) where
 
   matched-same : (u : Rule) → ((q : ℕ) → List·Memᴰ q (u .children) → (r : ℕ) → related R q r ≡ related S q r)
       → (rules : List Rule) (r : ℕ) → matched rules R r u ≡ matched rules S r u
-  unfolding matched any matches
+  unfolding matched any matchedBy
   matched-same u same [] r = refl
   matched-same u same (v ∷ vs) r =
       ap₂ _||_
@@ -59,10 +59,10 @@ member-low ws q four e = go (ltb q 256) refl
         absurd (true≢false (sym e ∙ rw (none, zero-div)))
 
 -- A pair that holds has a match for each rule of its first state.
-holds-answered : (rules : List Rule) (R : Relation) (r : ℕ) (u : Rule) → List·Memᴰ u rules → holds rules R (u .target, r) ≡ true
+survives-answered : (rules : List Rule) (R : Relation) (r : ℕ) (u : Rule) → List·Memᴰ u rules → survives rules R (u .target, r) ≡ true
     → matched rules R r u ≡ true
-unfolding holds
-holds-answered rules R r u m h =
+unfolding survives
+survives-answered rules R r u m h =
     rw (eq-eqb (u .target) (u .target) refl) at
     (every-out (λ (w : Rule). not (eqb (w .target) (u .target)) || matched rules R r w) h u m)
 
@@ -131,7 +131,7 @@ module _ (n : ℕ) (rules : List Rule) (last next after : List (List ℕ)) (empt
         let before = refine-out rules (relationIn last) (u .target) r (rw put-refined at e) in
         sym (matched-same (relationIn last) (relationIn after) u
         (λ q c. let is = all-out (member same) among q c in row-same q (member-low same q (round .four) is) is) rules r)
-        ∙ holds-answered rules (relationIn last) r u m (before .1)
+        ∙ survives-answered rules (relationIn last) r u m (before .1)
 
 -- A round that leaves every row below n as it was changes nothing.
 pub rows-same : (n : ℕ) (rules : List Rule) (last : List (List ℕ)) → EmptyFrom n last

@@ -18,7 +18,7 @@ use Rattle.automaton.specs.StateSet.{member, withoutState}
 use Rattle.automaton.proofs.StateSets.{member-without, same-test}
 use Rattle.automaton.proofs.Elements.{all-map}
 use Rattle.simulation.specs.Tree.{any}
-use Rattle.simulation.specs.Simulation.{Relation, related, paired, matches, every, matched, holds, refine}
+use Rattle.simulation.specs.Simulation.{Relation, related, paired, matchedBy, every, matched, survives, refine}
 use Rattle.simulation.specs.Words.{rulesIn}
 use Rattle.simulation.specs.Inner.{keyed, Chain, end, link, Chains, Has, childrenAt}
 use Rattle.simulation.proofs.Stacks.{any-map}
@@ -216,16 +216,16 @@ all-but-unmatched false b = and-false (not (not b && false))
 module _ (ranks rows : List ℕ) (k : ℕ) (R : Relation) where
   -- Rule v has target r and matches rule u.
   abbrev pub answers : ℕ → ℕ → ℕ → Bool
-  answers u r v = eqb (ruleAt ranks rows v .target) r && matches R (ruleAt ranks rows u) (ruleAt ranks rows v)
+  answers u r v = eqb (ruleAt ranks rows v .target) r && matchedBy R (ruleAt ranks rows u) (ruleAt ranks rows v)
 
   matched-keyed : (u r : ℕ) → matched (rulesIn ranks rows k) R r (ruleAt ranks rows u)
       ≡ any (answers u r) (keyed rows 0 (getD rows (10 * u) 0) 0 k)
-  unfolding matched rulesIn keyed matches ruleAt
+  unfolding matched rulesIn keyed matchedBy ruleAt
   matched-keyed u r =
-      any-map (λ (v : Rule). eqb (v .target) r && matches R (ruleAt ranks rows u) v) (ruleAt ranks rows) (from 0 k)
+      any-map (λ (v : Rule). eqb (v .target) r && matchedBy R (ruleAt ranks rows u) v) (ruleAt ranks rows) (from 0 k)
       ∙ any-keep (answers u r) (λ (j : ℕ). eqb (getD rows (10 * j + 0) 0) (getD rows (10 * u) 0)) (from 0 k)
       (λ v e.
-      let a = and-true-out (eqb (getD rows (10 * v + 1) 0) r) (matches R (ruleAt ranks rows u) (ruleAt ranks rows v)) e in
+      let a = and-true-out (eqb (getD rows (10 * v + 1) 0) r) (matchedBy R (ruleAt ranks rows u) (ruleAt ranks rows v)) e in
       let b = and-true-out (eqb (getD rows (10 * u) 0) (getD rows (10 * v) 0)) _ (a .1) in
       rw add-zero (eq-eqb _ _ (sym (eqb-true (getD rows (10 * u) 0) (getD rows (10 * v) 0) (b .0)))))
 
@@ -233,7 +233,7 @@ module _ (ranks rows : List ℕ) (k : ℕ) (R : Relation) where
       → answers u r v ≡ (eqb (getD rows (10 * v + 1) 0) r
       && paired R (childrenAt rows (getD ranks (getD rows (10 * u) 0) 0) u)
       (childrenAt rows (getD ranks (getD rows (10 * u) 0) 0) v))
-  unfolding matches ruleAt childrenAt
+  unfolding matchedBy ruleAt childrenAt
   answers-alike u v r e =
       let s : getD rows (10 * v) 0 ≡ getD rows (10 * u) 0 = rw add-zero at e in
       rw (s, eq-eqb (getD rows (10 * u) 0) (getD rows (10 * u) 0) refl)
@@ -284,10 +284,10 @@ module _ (ranks rows : List ℕ) (k : ℕ) (R : Relation) where
       × ((r : ℕ) → r < 256 → related (refine (rulesIn ranks rows k) R) q r
       ≡ (member kept r && every (λ (u : ℕ). matched (rulesIn ranks rows k) R r (ruleAt ranks rows u)) (w .rest)))
 
-  holds-keyed : (q r : ℕ) → holds (rulesIn ranks rows k) R (q, r)
+  survives-keyed : (q r : ℕ) → survives (rulesIn ranks rows k) R (q, r)
       ≡ every (λ (u : ℕ). matched (rulesIn ranks rows k) R r (ruleAt ranks rows u)) (keyed rows 1 q 0 k)
-  unfolding holds keyed ruleAt
-  holds-keyed q r =
+  unfolding survives keyed ruleAt
+  survives-keyed q r =
       unfold rulesIn in
       every-map (λ (u : Rule). not (eqb (u .target) q) || matched (rulesIn ranks rows k) R r u) (ruleAt ranks rows) (from 0 k)
       ∙ every-keep (λ (j : ℕ). eqb (getD rows (10 * j + 1) 0) q)
@@ -298,7 +298,7 @@ module _ (ranks rows : List ℕ) (k : ℕ) (R : Relation) where
   unfolding walk-from
   narrowed-none q kept head next few low chains has = (
     walk-from rows head next 1 k q few low chains,
-    λ r b. refine-related (rulesIn ranks rows k) R q r ∙ ap₂ _&&_ (sym (has r b)) (holds-keyed q r),
+    λ r b. refine-related (rulesIn ranks rows k) R q r ∙ ap₂ _&&_ (sym (has r b)) (survives-keyed q r),
   )
 
   pub narrowed-next : (q : ℕ) (next kept kept′ : List ℕ) (l : ℕ) → 0 < l → Narrowed q next kept l

@@ -65,8 +65,8 @@ pub record Indexed (k m : ℕ) (ranks rows first order : List ℕ) : Type 0 wher
 
 -- A stack of state sets in words: entry e is the four words from 4 e on.
 -- Room for n entries, or for 1,024 where n is greater.
-abbrev pub Room : ℕ → List ℕ → Type 0
-Room n words = (h : ℕ) → h ≤ n → h ≤ 1024 → 4 * h ≤ length words
+abbrev pub StackRoom : ℕ → List ℕ → Type 0
+StackRoom n words = (h : ℕ) → h ≤ n → h ≤ 1024 → 4 * h ≤ length words
 
 -- States that are members, one each and in order, of the entries from e on.
 unfoldable pub inOrder : List ℕ → ℕ → List ℕ → Bool
@@ -77,20 +77,20 @@ inOrder words e (q ∷ qs) = member (drop (4 * e) words) q && inOrder words (suc
 unfoldable pub leadsTo : List ℕ → List ℕ → List ℕ → ℕ → ℕ → ℕ → Bool
 leadsTo ranks rows words e q i = eqb (ruleAt ranks rows i .target) q && inOrder words e (ruleAt ranks rows i .children)
 
--- The entry of each tree on a stack, whose top stands first, is the set of the states that the tree belongs to.
-unfoldable pub Holds : List Rule → List ℕ → List Tree → Type 0
-Holds rules words [] = Unit {0}
-Holds rules words (t ∷ ts) =
-    ((q : ℕ) → q < 256 → member (drop (4 * length ts) words) q ≡ belongs rules t q) × Holds rules words ts
+-- Words represent a stack of trees, whose top stands first: the entry of each tree is the set of the states that it belongs to.
+unfoldable pub Represents : List Rule → List ℕ → List Tree → Type 0
+Represents rules words [] = Unit {0}
+Represents rules words (t ∷ ts) =
+    ((q : ℕ) → q < 256 → member (drop (4 * length ts) words) q ≡ belongs rules t q) × Represents rules words ts
 
 unfoldable pub heightOf : Height → Read ℕ
 heightOf (height.At n) = found n
 heightOf (height.Refused cause) = refused (numberOf cause)
 
--- What reading nodes leaves: the stack's height or the refusal, and words that hold the stack.
+-- What reading nodes leaves: the stack's height or the refusal, and words that represent the stack.
 pub record Stacked (rules : List Rule) (stack : Read (List Tree)) (words : List ℕ) (answer : Height) : Type 0 where
   pub height : heightOf answer ≡ mapRead length stack
-  pub holds : (trees : List Tree) → stack ≡ found trees → Holds rules words trees
+  pub represents : (trees : List Tree) → stack ≡ found trees → Represents rules words trees
 
 -- The acceptance by an automaton of the one tree on a stack, of a tree in postfix order, and of a tree in bytes.
 unfoldable pub stackAcceptance : List Rule → List ℕ → List Tree → Read Bool

@@ -1,5 +1,5 @@
 -- A tree in bytes (document 01: "sheet"): one record of kind 16 and nothing behind it; its body is the tree in postfix order.
-use Prim.Native.Nat.{ℕ, _+_, _%_}
+use Prim.Native.Nat.{ℕ, suc, _+_, _%_, max}
 use mathlib.Core.List.{List, [], _∷_, _++_, reverse}
 use mathlib.Core.Bool.{Bool, false, _&&_}
 use lib.ListN.{length, take, drop, getD}
@@ -57,6 +57,16 @@ unfoldable mutual
   pub postfixes : Trees → List ℕ
   postfixes nil = []
   postfixes (cons t ts) = postfix t ++ postfixes ts
+
+-- How many trees wait at most after a node while a tree is read: at least the tree itself at the end, and the most among its children, of which
+-- child i waits above the i finished ones before it.
+unfoldable mutual
+  pub peak : Tree → ℕ
+  peak (node f ts) = max 1 (peakAbove 0 ts)
+
+  pub peakAbove : ℕ → Trees → ℕ
+  peakAbove i nil = 0
+  peakAbove i (cons t ts) = max (i + peak t) (peakAbove (suc i) ts)
 
 -- A tree in bytes, two for each symbol.
 unfoldable pub encodeTree : Tree → List ℕ

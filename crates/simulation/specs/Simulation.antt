@@ -40,8 +40,9 @@ paired R [] (r ∷ rs) = false
 paired R (q ∷ qs) [] = false
 paired R (q ∷ qs) (r ∷ rs) = related R q r && paired R qs rs
 
-unfoldable pub matches : Relation → Rule → Rule → Bool
-matches R u v = eqb (u .symbol) (v .symbol) && paired R (u .children) (v .children)
+-- Rule u is matched by rule v: the same symbol, and the children of u paired with those of v.
+unfoldable pub matchedBy : Relation → Rule → Rule → Bool
+matchedBy R u v = eqb (u .symbol) (v .symbol) && paired R (u .children) (v .children)
 
 unfoldable pub every : {A : Type 0} → (A → Bool) → List A → Bool
 every test [] = true
@@ -49,15 +50,16 @@ every test (x ∷ xs) = test x && every test xs
 
 -- Some rule of target r matches u.
 unfoldable pub matched : List Rule → Relation → ℕ → Rule → Bool
-matched rules R r u = any (λ (v : Rule). eqb (v .target) r && matches R u v) rules
+matched rules R r u = any (λ (v : Rule). eqb (v .target) r && matchedBy R u v) rules
 
--- Each rule of target q has one rule of target r with the same symbol, all its children paired position by position.
-unfoldable pub holds : List Rule → Relation → ℕ × ℕ → Bool
-holds rules R p = every (λ (u : Rule). not (eqb (u .target) (p .0)) || matched rules R (p .1) u) rules
+-- A pair (q, r) survives a round: each rule of target q has one rule of target r with the same symbol, all its children paired position
+-- by position.
+unfoldable pub survives : List Rule → Relation → ℕ × ℕ → Bool
+survives rules R p = every (λ (u : Rule). not (eqb (u .target) (p .0)) || matched rules R (p .1) u) rules
 
 -- R(j+1) from Rj.
 unfoldable pub refine : List Rule → Relation → Relation
-refine rules R = keep (holds rules R) R
+refine rules R = keep (survives rules R) R
 
 -- R0: all pairs of some states.
 unfoldable pub allPairs : List ℕ → List ℕ → Relation

@@ -15,7 +15,7 @@ ghost use Rattle.simulation.specs.Tree.{Tree, any};
 ghost use Rattle.simulation.specs.Words.{rulesIn};
 ghost use Rattle.simulation.specs.Postfix.{isTreeRecord, push, pushAll};
 ghost use Rattle.simulation.specs.Check.{acceptanceOf};
-ghost use Rattle.simulation.specs.Inner.{keyed, Indexed, Room, inOrder, leadsTo, Holds, Stacked};
+ghost use Rattle.simulation.specs.Inner.{keyed, Indexed, StackRoom, inOrder, leadsTo, Represents, Stacked};
 ghost use Rattle.simulation.specs.Inner.{stackAcceptance, nodesAcceptance, treeAcceptance};
 use crate::checking::Answer;
 use crate::index::group_rules;
@@ -111,22 +111,22 @@ fn step(
     height: usize,
 ) -> Height
     requires { ⌜ Indexed (size .rules) (size .symbols) (now ranks) (now rows) (now first) (now order) ⌝ }
-    requires { ⌜ (height ≤ 1024) × Room (height + 1) (now stack) ⌝ }
+    requires { ⌜ (height ≤ 1024) × StackRoom (height + 1) (now stack) ⌝ }
     ensures { λ r. ⌜ ((trees : List Tree) → length trees ≡ height
-        → Holds (rulesIn (now (ranks .entry)) (now (rows .entry)) (size .rules)) (now (stack .entry)) trees
+        → Represents (rulesIn (now (ranks .entry)) (now (rows .entry)) (size .rules)) (now (stack .entry)) trees
         → Stacked (rulesIn (now (ranks .entry)) (now (rows .entry)) (size .rules))
         (push (take (size .symbols) (now (ranks .entry))) trees symbol) (now (stack .exit)) r) ⌝ }
 {
     if symbol >= size.symbols {
-        return Height::Refused(Refusal::Symbol);
+        return Height::Refused(Refusal::UnknownSymbol);
     }
     let rank = ranks[symbol] as usize;
     if height < rank {
-        return Height::Refused(Refusal::Shape);
+        return Height::Refused(Refusal::Unbalanced);
     }
     let e = height - rank;
     if e >= 1024 {
-        return Height::Refused(Refusal::Bound);
+        return Height::Refused(Refusal::TreeAboveLimit);
     }
     let set = targets(
         size.rules,
@@ -162,7 +162,7 @@ fn evaluate(
     stack: &mut [u64],
 ) -> Height
     requires { ⌜ Indexed (size .rules) (size .symbols) (now ranks) (now rows) (now first) (now order) ⌝ }
-    requires { ⌜ Room (length (now b) / 2) (now stack) ⌝ }
+    requires { ⌜ StackRoom (length (now b) / 2) (now stack) ⌝ }
     ensures { λ r. ⌜ Stacked (rulesIn (now (ranks .entry)) (now (rows .entry)) (size .rules))
         (pushAll (take (size .symbols) (now (ranks .entry))) [] (bytes.numbers (now (b .entry)))) (now (stack .exit)) r ⌝ }
 {
@@ -201,11 +201,11 @@ fn has_final(finals: StateSet, n: usize, stack: &[u64]) -> bool
 // The answer for the one tree on a stack of the given height.
 fn answer_on(height: usize, finals: StateSet, n: usize, stack: &[u64]) -> Answer
     requires { ⌜ (n ≤ 256) × (4 ≤ length (now stack)) ⌝ }
-    ensures { λ r. ⌜ ((rules : List Rule) (trees : List Tree) → length trees ≡ height → Holds rules (now (stack .entry)) trees
+    ensures { λ r. ⌜ ((rules : List Rule) (trees : List Tree) → length trees ≡ height → Represents rules (now (stack .entry)) trees
         → acceptanceOf r ≡ stackAcceptance rules (keep (member (finals .words)) (from 0 n)) trees) ⌝ }
 {
     if height != 1 {
-        return Answer::Refused(Refusal::Shape);
+        return Answer::Refused(Refusal::Unbalanced);
     }
     if !has_final(finals, n, stack) {
         return Answer::Rejected;
@@ -222,7 +222,7 @@ fn accept_on(
     b: &[u8],
     stack: &mut [u64],
 ) -> Answer
-    requires { ⌜ (size .symbols ≤ 256) × (Room (length (now b) / 2) (now stack) × (4 ≤ length (now stack))) ⌝ }
+    requires { ⌜ (size .symbols ≤ 256) × (StackRoom (length (now b) / 2) (now stack) × (4 ≤ length (now stack))) ⌝ }
     requires { ⌜ WellFormed (automatonIn size (finals .words) (now ranks) (now rows)) ⌝ }
     ensures { λ r. ⌜ acceptanceOf r ≡ nodesAcceptance
         (automatonIn size (finals .words) (now (ranks .entry)) (now (rows .entry))) (bytes.numbers (now (b .entry))) ⌝ }
@@ -288,11 +288,11 @@ pub fn accept(
         ≡ treeAcceptance (automatonIn size (finals .words) (now (ranks .entry)) (now (rows .entry))) (now (tree .entry)) ⌝ }
 {
     if !is_tree(tree) {
-        return Answer::Refused(Refusal::Tree);
+        return Answer::Refused(Refusal::NotATree);
     }
     let b = body(tree);
     if b.len() / 2 > 16384 {
-        return Answer::Refused(Refusal::Bound);
+        return Answer::Refused(Refusal::TreeAboveLimit);
     }
     accept_nodes(size, finals, ranks, rows, b)
 }

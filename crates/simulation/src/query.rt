@@ -101,7 +101,7 @@ pub fn relate(table: &[u8], out: &mut [u8]) -> Related
         Judged::Table(size) => {
             let n = size.states;
             if out.len() < 32 * n {
-                return Related::Refused(Refusal::Room);
+                return Related::Refused(Refusal::ShortOutput);
             }
             let mut words: [u64; 1024] = [0; 1024];
             let rounds = simulate_into(all_states(n), n, size.rules, &ranks, &rows, &mut words);
@@ -139,8 +139,8 @@ fn children_paired(words: &[u64; 1024], rows: &[u16], a: usize, b: usize, count:
     true
 }
 
-// Whether rule j matches rule i.
-pub fn rule_matches(
+// Whether rule i is matched by rule j.
+pub fn is_matched_by(
     words: &[u64; 1024],
     ranks: &[u8; 256],
     rows: &[u16; 10240],
@@ -149,7 +149,7 @@ pub fn rule_matches(
 ) -> bool
     requires { ⌜ (i < 1024) × (j < 1024) ⌝ }
     requires { ⌜ RowRanged (now ranks) (now rows) i × RowRanged (now ranks) (now rows) j ⌝ }
-    ensures { λ x. ⌜ ((R : simulation.Relation) → now (words .entry) ≡ relationWords R → x ≡ simulation.matches R
+    ensures { λ x. ⌜ ((R : simulation.Relation) → now (words .entry) ≡ relationWords R → x ≡ simulation.matchedBy R
         (ruleAt (now (ranks .entry)) (now (rows .entry)) i) (ruleAt (now (ranks .entry)) (now (rows .entry)) j)) ⌝ }
 {
     let symbol = rows[10 * i];
@@ -176,7 +176,7 @@ fn has_match(
 {
     let mut j: usize = 0;
     while j < k {
-        if rows[10 * j + 1] as usize == r && rule_matches(words, ranks, rows, i, j) {
+        if rows[10 * j + 1] as usize == r && is_matched_by(words, ranks, rows, i, j) {
             return true;
         }
         j += 1;
@@ -222,10 +222,10 @@ pub fn compare(table: &[u8], q: usize, r: usize) -> Compared
         Judged::Table(size) => {
             let n = size.states;
             if q >= n {
-                return Compared::Refused(Refusal::State);
+                return Compared::Refused(Refusal::UnknownState);
             }
             if r >= n {
-                return Compared::Refused(Refusal::State);
+                return Compared::Refused(Refusal::UnknownState);
             }
             let words = simulate(all_states(n), n, size.rules, &ranks, &rows).words;
             if has_pair(&words, q, r) {

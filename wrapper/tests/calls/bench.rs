@@ -95,15 +95,15 @@ fn b8() {
 
 #[test]
 fn b9() {
-    assert_eq!(answer(&tree(&[F])), Answer::Refused(Refusal::Shape));
-    assert_eq!(Refusal::Shape.number(), 10);
+    assert_eq!(answer(&tree(&[F])), Answer::Refused(Refusal::Unbalanced));
+    assert_eq!(Refusal::Unbalanced.number(), 10);
 }
 
 #[test]
 fn b10() {
-    assert_eq!(answer(&tree(&[])), Answer::Refused(Refusal::Shape));
-    assert_eq!(answer(&tree(&[3])), Answer::Refused(Refusal::Symbol));
-    assert_eq!(Refusal::Symbol.number(), 9);
+    assert_eq!(answer(&tree(&[])), Answer::Refused(Refusal::Unbalanced));
+    assert_eq!(answer(&tree(&[3])), Answer::Refused(Refusal::UnknownSymbol));
+    assert_eq!(Refusal::UnknownSymbol.number(), 9);
 }
 
 #[test]

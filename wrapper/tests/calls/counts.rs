@@ -16,7 +16,7 @@ fn fresh() {
 #[test]
 fn each_answer_counts_one() {
     let table = bench();
-    let shape = Answer::Refused(Refusal::Shape);
+    let shape = Answer::Refused(Refusal::Unbalanced);
     let steps = [
         (tree(&[B, A, F]), Answer::Accepted, counts(1, 0, 0)),
         (tree(&[A]), Answer::Rejected, counts(1, 1, 0)),
@@ -32,7 +32,7 @@ fn each_answer_counts_one() {
         before = checked.counts;
     }
     let refused_table = check(before, &[], &tree(&[A]));
-    assert_eq!(refused_table.answer, Answer::Refused(Refusal::Kind));
+    assert_eq!(refused_table.answer, Answer::Refused(Refusal::WrongKind));
     assert_eq!(refused_table.counts, counts(2, 2, 3));
 }
 

@@ -8,8 +8,8 @@ use fensullay::{
 
 #[test]
 fn zero_bytes() {
-    assert_eq!(judge(&[]), Err(Refusal::Kind));
-    assert_eq!(Refusal::Kind.number(), 2);
+    assert_eq!(judge(&[]), Err(Refusal::WrongKind));
+    assert_eq!(Refusal::WrongKind.number(), 2);
     assert_eq!(report_lines(&[]), "refused 2\n");
 }
 
@@ -17,22 +17,22 @@ fn zero_bytes() {
 fn states() {
     let most = table(256, &[], &[0, 255], &[]);
     assert_eq!(judge(&most), Ok(Size { states: 256, symbols: 0, rules: 0 }));
-    assert_eq!(judge(&table(257, &[], &[], &[])), Err(Refusal::Limit));
-    assert_eq!(Refusal::Limit.number(), 4);
+    assert_eq!(judge(&table(257, &[], &[], &[])), Err(Refusal::AboveLimit));
+    assert_eq!(Refusal::AboveLimit.number(), 4);
 }
 
 #[test]
 fn symbols() {
     let most = table(0, &[8; 256], &[], &[]);
     assert_eq!(judge(&most), Ok(Size { states: 0, symbols: 256, rules: 0 }));
-    assert_eq!(judge(&table(0, &[8; 257], &[], &[])), Err(Refusal::Limit));
+    assert_eq!(judge(&table(0, &[8; 257], &[], &[])), Err(Refusal::AboveLimit));
 }
 
 #[test]
 fn rules() {
     let rules = |count: usize| table(1, &[0], &[0], &vec![rule(0, &[], 0); count]);
     assert_eq!(judge(&rules(1024)), Ok(Size { states: 1, symbols: 1, rules: 1024 }));
-    assert_eq!(judge(&rules(1025)), Err(Refusal::Limit));
+    assert_eq!(judge(&rules(1025)), Err(Refusal::AboveLimit));
 }
 
 #[test]
@@ -41,7 +41,7 @@ fn rank() {
     assert_eq!(judge(&most), Ok(Size { states: 1, symbols: 2, rules: 2 }));
     let eight_leaves = tree(&[0, 0, 0, 0, 0, 0, 0, 0, 1]);
     assert_eq!(check(Counts::fresh(), &most, &eight_leaves).answer, Answer::Accepted);
-    assert_eq!(judge(&table(1, &[0, 9], &[0], &[])), Err(Refusal::Limit));
+    assert_eq!(judge(&table(1, &[0, 9], &[0], &[])), Err(Refusal::AboveLimit));
 }
 
 #[test]
@@ -53,8 +53,8 @@ fn nodes() {
         check(Counts::fresh(), &chains, &tree(&symbols)).answer
     };
     assert_eq!(answer(16_384), Answer::Accepted);
-    assert_eq!(answer(16_385), Answer::Refused(Refusal::Bound));
-    assert_eq!(Refusal::Bound.number(), 11);
+    assert_eq!(answer(16_385), Answer::Refused(Refusal::TreeAboveLimit));
+    assert_eq!(Refusal::TreeAboveLimit.number(), 11);
 }
 
 #[test]
@@ -65,7 +65,7 @@ fn waiting() {
         check(Counts::fresh(), &pairs, &tree(&symbols)).answer
     };
     assert_eq!(answer(1_024), Answer::Accepted);
-    assert_eq!(answer(1_025), Answer::Refused(Refusal::Bound));
+    assert_eq!(answer(1_025), Answer::Refused(Refusal::TreeAboveLimit));
 }
 
 #[test]
@@ -88,7 +88,7 @@ fn longest_table() {
 #[test]
 fn the_report_looks_at_the_first_bytes() {
     let too_many = [longest(), rule(0, &[0; 8], 0)].concat();
-    assert_eq!(judge(&too_many), Err(Refusal::Count));
+    assert_eq!(judge(&too_many), Err(Refusal::WrongRuleCount));
     assert_eq!(report_lines(&too_many), "refused 1\n");
     assert_eq!(report_lines(&too_many[..27_417]), "refused 1\n");
 }

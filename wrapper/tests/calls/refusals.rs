@@ -108,144 +108,144 @@ fn numbers_and_texts() {
 #[test]
 fn cause_1() {
     for length in [1, 5, 11, 13, 22, 30, 110, 112, 124] {
-        refuses_table(&bench()[..length], Refusal::Broken);
+        refuses_table(&bench()[..length], Refusal::BrokenRecord);
     }
-    refuses_table(&[0, 0, 0, 0, 1, 0], Refusal::Broken);
-    refuses_table(&[1, 0, 0, 0, 1, 0], Refusal::Broken);
-    refuses_table(&[255, 255, 255, 255, 1, 0], Refusal::Broken);
-    refuses_table(&followed(&[0]), Refusal::Broken);
+    refuses_table(&[0, 0, 0, 0, 1, 0], Refusal::BrokenRecord);
+    refuses_table(&[1, 0, 0, 0, 1, 0], Refusal::BrokenRecord);
+    refuses_table(&[255, 255, 255, 255, 1, 0], Refusal::BrokenRecord);
+    refuses_table(&followed(&[0]), Refusal::BrokenRecord);
 }
 
 #[test]
 fn cause_2() {
-    refuses_table(&[], Refusal::Kind);
-    refuses_table(&bench()[..12], Refusal::Kind);
-    refuses_table(&bench()[..21], Refusal::Kind);
-    refuses_table(&bench()[12..], Refusal::Kind);
-    refuses_table(&ruled(&record(3, &[])), Refusal::Kind);
-    refuses_table(&ruled(&record(260, &words(&[A, 0]))), Refusal::Kind);
-    refuses_table(&followed(&record(16, &[])), Refusal::Kind);
+    refuses_table(&[], Refusal::WrongKind);
+    refuses_table(&bench()[..12], Refusal::WrongKind);
+    refuses_table(&bench()[..21], Refusal::WrongKind);
+    refuses_table(&bench()[12..], Refusal::WrongKind);
+    refuses_table(&ruled(&record(3, &[])), Refusal::WrongKind);
+    refuses_table(&ruled(&record(260, &words(&[A, 0]))), Refusal::WrongKind);
+    refuses_table(&followed(&record(16, &[])), Refusal::WrongKind);
 }
 
 #[test]
 fn cause_3() {
-    refuses_table(&sized(&[5, 0, 3, 0, 8]), Refusal::Length);
-    refuses_table(&sized(&[5, 0, 3, 0, 8, 0, 0]), Refusal::Length);
-    refuses_table(&ranked(&[0, 0]), Refusal::Length);
-    refuses_table(&ranked(&[0, 0, 2, 0]), Refusal::Length);
-    refuses_table(&ending(&[3, 0, 4]), Refusal::Length);
-    refuses_table(&ruled(&record(4, &[0, 0, 0])), Refusal::Length);
-    refuses_table(&ruled(&rule(A, &[0], 0)), Refusal::Length);
-    refuses_table(&ruled(&rule(F, &[0], 0)), Refusal::Length);
-    refuses_table(&ruled(&record(4, &[2, 0, 3, 0, 0, 0, 0])), Refusal::Length);
+    refuses_table(&sized(&[5, 0, 3, 0, 8]), Refusal::WrongLength);
+    refuses_table(&sized(&[5, 0, 3, 0, 8, 0, 0]), Refusal::WrongLength);
+    refuses_table(&ranked(&[0, 0]), Refusal::WrongLength);
+    refuses_table(&ranked(&[0, 0, 2, 0]), Refusal::WrongLength);
+    refuses_table(&ending(&[3, 0, 4]), Refusal::WrongLength);
+    refuses_table(&ruled(&record(4, &[0, 0, 0])), Refusal::WrongLength);
+    refuses_table(&ruled(&rule(A, &[0], 0)), Refusal::WrongLength);
+    refuses_table(&ruled(&rule(F, &[0], 0)), Refusal::WrongLength);
+    refuses_table(&ruled(&record(4, &[2, 0, 3, 0, 0, 0, 0])), Refusal::WrongLength);
 }
 
 #[test]
 fn cause_4() {
-    refuses_table(&sized(&words(&[257, 3, 8])), Refusal::Limit);
-    refuses_table(&sized(&words(&[5, 257, 8])), Refusal::Limit);
-    refuses_table(&sized(&words(&[5, 3, 1025])), Refusal::Limit);
-    refuses_table(&ranked(&[0, 0, 9]), Refusal::Limit);
+    refuses_table(&sized(&words(&[257, 3, 8])), Refusal::AboveLimit);
+    refuses_table(&sized(&words(&[5, 257, 8])), Refusal::AboveLimit);
+    refuses_table(&sized(&words(&[5, 3, 1025])), Refusal::AboveLimit);
+    refuses_table(&ranked(&[0, 0, 9]), Refusal::AboveLimit);
 }
 
 #[test]
 fn cause_5() {
-    refuses_table(&ending(&words(&[5])), Refusal::Range);
-    refuses_table(&ending(&words(&[3, 65_535])), Refusal::Range);
-    refuses_table(&ruled(&rule(3, &[], 0)), Refusal::Range);
-    refuses_table(&ruled(&rule(A, &[], 5)), Refusal::Range);
-    refuses_table(&ruled(&rule(F, &[0, 5], 4)), Refusal::Range);
-    refuses_table(&ruled(&rule(F, &[256, 0], 4)), Refusal::Range);
+    refuses_table(&ending(&words(&[5])), Refusal::OutOfRange);
+    refuses_table(&ending(&words(&[3, 65_535])), Refusal::OutOfRange);
+    refuses_table(&ruled(&rule(3, &[], 0)), Refusal::OutOfRange);
+    refuses_table(&ruled(&rule(A, &[], 5)), Refusal::OutOfRange);
+    refuses_table(&ruled(&rule(F, &[0, 5], 4)), Refusal::OutOfRange);
+    refuses_table(&ruled(&rule(F, &[256, 0], 4)), Refusal::OutOfRange);
 }
 
 #[test]
 fn cause_6() {
-    refuses_table(&ending(&words(&[3, 3])), Refusal::Order);
-    refuses_table(&ending(&words(&[0, 4, 3])), Refusal::Order);
+    refuses_table(&ending(&words(&[3, 3])), Refusal::FinalsOutOfOrder);
+    refuses_table(&ending(&words(&[0, 4, 3])), Refusal::FinalsOutOfOrder);
 }
 
 #[test]
 fn cause_7() {
-    refuses_table(&followed(&rule(A, &[], 0)), Refusal::Count);
-    refuses_table(&ruled(&[]), Refusal::Count);
-    refuses_table(&bench()[..29], Refusal::Count);
+    refuses_table(&followed(&rule(A, &[], 0)), Refusal::WrongRuleCount);
+    refuses_table(&ruled(&[]), Refusal::WrongRuleCount);
+    refuses_table(&bench()[..29], Refusal::WrongRuleCount);
 }
 
 /// Records are read in turn, and the causes within one have an order.
 #[test]
 fn the_first_cause_in_a_table() {
-    refuses_table(&[ranked(&[0, 0, 9]), vec![0]].concat(), Refusal::Limit);
-    refuses_table(&[&record(2, &[]), &bench()[12..]].concat(), Refusal::Kind);
-    refuses_table(&followed(&[1, 0, 0, 0, 4, 0]), Refusal::Broken);
-    refuses_table(&followed(&record(3, &[0])), Refusal::Kind);
-    refuses_table(&followed(&record(4, &[0])), Refusal::Count);
-    refuses_table(&sized(&words(&[257, 3, 8, 0])), Refusal::Length);
-    refuses_table(&ranked(&[0, 9]), Refusal::Length);
-    refuses_table(&ending(&[9, 0, 9]), Refusal::Length);
-    refuses_table(&ending(&words(&[4, 3, 5])), Refusal::Range);
-    refuses_table(&ruled(&record(4, &[9, 0, 9])), Refusal::Length);
-    refuses_table(&ruled(&record(4, &[3, 0, 0, 0, 0])), Refusal::Range);
-    refuses_table(&ruled(&rule(F, &[9], 9)), Refusal::Length);
+    refuses_table(&[ranked(&[0, 0, 9]), vec![0]].concat(), Refusal::AboveLimit);
+    refuses_table(&[&record(2, &[]), &bench()[12..]].concat(), Refusal::WrongKind);
+    refuses_table(&followed(&[1, 0, 0, 0, 4, 0]), Refusal::BrokenRecord);
+    refuses_table(&followed(&record(3, &[0])), Refusal::WrongKind);
+    refuses_table(&followed(&record(4, &[0])), Refusal::WrongRuleCount);
+    refuses_table(&sized(&words(&[257, 3, 8, 0])), Refusal::WrongLength);
+    refuses_table(&ranked(&[0, 9]), Refusal::WrongLength);
+    refuses_table(&ending(&[9, 0, 9]), Refusal::WrongLength);
+    refuses_table(&ending(&words(&[4, 3, 5])), Refusal::OutOfRange);
+    refuses_table(&ruled(&record(4, &[9, 0, 9])), Refusal::WrongLength);
+    refuses_table(&ruled(&record(4, &[3, 0, 0, 0, 0])), Refusal::OutOfRange);
+    refuses_table(&ruled(&rule(F, &[9], 9)), Refusal::WrongLength);
 }
 
 #[test]
 fn cause_8() {
     let leaf = tree(&[A]);
-    refuses_tree(&[], Refusal::Tree);
-    refuses_tree(&leaf[..5], Refusal::Tree);
-    refuses_tree(&leaf[..7], Refusal::Tree);
-    refuses_tree(&[1, 0, 0, 0, 16, 0], Refusal::Tree);
-    refuses_tree(&record(4, &words(&[A])), Refusal::Tree);
-    refuses_tree(&record(272, &words(&[A])), Refusal::Tree);
-    refuses_tree(&record(16, &[0]), Refusal::Tree);
-    refuses_tree(&record(16, &[0, 0, 0]), Refusal::Tree);
-    refuses_tree(&[&leaf[..], &[0]].concat(), Refusal::Tree);
-    refuses_tree(&[&leaf[..], &leaf].concat(), Refusal::Tree);
+    refuses_tree(&[], Refusal::NotATree);
+    refuses_tree(&leaf[..5], Refusal::NotATree);
+    refuses_tree(&leaf[..7], Refusal::NotATree);
+    refuses_tree(&[1, 0, 0, 0, 16, 0], Refusal::NotATree);
+    refuses_tree(&record(4, &words(&[A])), Refusal::NotATree);
+    refuses_tree(&record(272, &words(&[A])), Refusal::NotATree);
+    refuses_tree(&record(16, &[0]), Refusal::NotATree);
+    refuses_tree(&record(16, &[0, 0, 0]), Refusal::NotATree);
+    refuses_tree(&[&leaf[..], &[0]].concat(), Refusal::NotATree);
+    refuses_tree(&[&leaf[..], &leaf].concat(), Refusal::NotATree);
 }
 
 #[test]
 fn cause_9() {
-    refuses_tree(&tree(&[3]), Refusal::Symbol);
-    refuses_tree(&tree(&[B, A, 258]), Refusal::Symbol);
+    refuses_tree(&tree(&[3]), Refusal::UnknownSymbol);
+    refuses_tree(&tree(&[B, A, 258]), Refusal::UnknownSymbol);
 }
 
 #[test]
 fn cause_10() {
-    refuses_tree(&tree(&[]), Refusal::Shape);
-    refuses_tree(&tree(&[F]), Refusal::Shape);
-    refuses_tree(&tree(&[A, F]), Refusal::Shape);
-    refuses_tree(&tree(&[A, B]), Refusal::Shape);
-    refuses_tree(&tree(&[B, A, F, A]), Refusal::Shape);
+    refuses_tree(&tree(&[]), Refusal::Unbalanced);
+    refuses_tree(&tree(&[F]), Refusal::Unbalanced);
+    refuses_tree(&tree(&[A, F]), Refusal::Unbalanced);
+    refuses_tree(&tree(&[A, B]), Refusal::Unbalanced);
+    refuses_tree(&tree(&[B, A, F, A]), Refusal::Unbalanced);
 }
 
 #[test]
 fn cause_11() {
-    refuses_tree(&tree(&[A; 16_385]), Refusal::Bound);
-    refuses_tree(&tree(&[A; 1_025]), Refusal::Bound);
+    refuses_tree(&tree(&[A; 16_385]), Refusal::TreeAboveLimit);
+    refuses_tree(&tree(&[A; 1_025]), Refusal::TreeAboveLimit);
 }
 
 /// First the record, then the number of nodes, then node by node, then the end.
 #[test]
 fn the_first_cause_in_a_tree() {
-    refuses_tree(&record(16, &[9; 40_001]), Refusal::Tree);
-    refuses_tree(&tree(&[9; 16_385]), Refusal::Bound);
-    refuses_tree(&tree(&[9; 16_384]), Refusal::Symbol);
-    refuses_tree(&tree(&[A, F, 3]), Refusal::Shape);
-    refuses_tree(&tree(&[A, 3, F]), Refusal::Symbol);
-    refuses_tree(&tree(&[A; 1_024]), Refusal::Shape);
-    refuses_tree(&tree(&[&[A; 1_024][..], &[3]].concat()), Refusal::Symbol);
-    refuses_tree(&tree(&[&[A; 1_025][..], &[3]].concat()), Refusal::Bound);
+    refuses_tree(&record(16, &[9; 40_001]), Refusal::NotATree);
+    refuses_tree(&tree(&[9; 16_385]), Refusal::TreeAboveLimit);
+    refuses_tree(&tree(&[9; 16_384]), Refusal::UnknownSymbol);
+    refuses_tree(&tree(&[A, F, 3]), Refusal::Unbalanced);
+    refuses_tree(&tree(&[A, 3, F]), Refusal::UnknownSymbol);
+    refuses_tree(&tree(&[A; 1_024]), Refusal::Unbalanced);
+    refuses_tree(&tree(&[&[A; 1_024][..], &[3]].concat()), Refusal::UnknownSymbol);
+    refuses_tree(&tree(&[&[A; 1_025][..], &[3]].concat()), Refusal::TreeAboveLimit);
 }
 
 #[test]
 fn cause_12() {
     let mut lent = numbers(3);
     for (q, r) in [(5, 0), (0, 5), (5, 5), (256, 0), (0, 65_536), (usize::MAX, usize::MAX)] {
-        assert_eq!(compare(&bench(), q, r), Err(Refusal::State));
+        assert_eq!(compare(&bench(), q, r), Err(Refusal::UnknownState));
         assert_eq!(raw::compare(&bench(), q, r, &mut lent), 12);
     }
     assert_eq!(lent, numbers(3));
-    assert_eq!(compare(&table(0, &[], &[], &[]), 0, 0), Err(Refusal::State));
+    assert_eq!(compare(&table(0, &[], &[], &[]), 0, 0), Err(Refusal::UnknownState));
 }
 
 #[test]
@@ -253,20 +253,20 @@ fn cause_13() {
     let mut lent = numbers(8);
     for room in [0, 1, 32, 159] {
         let mut out = bytes(room);
-        assert_eq!(relate(&bench(), &mut out), Err(Refusal::Room));
+        assert_eq!(relate(&bench(), &mut out), Err(Refusal::ShortOutput));
         assert_eq!(raw::relate(&bench(), &mut out, &mut lent), 13);
         assert_eq!(out, bytes(room));
     }
     for room in [0, 1, 24, 62] {
         let mut out = bytes(room);
-        assert_eq!(reduce(&bench(), &mut out), Err(Refusal::Room));
+        assert_eq!(reduce(&bench(), &mut out), Err(Refusal::ShortOutput));
         assert_eq!(raw::reduce(&bench(), &mut out, &mut lent), 13);
         assert_eq!(out, bytes(room));
     }
     // The bench table's report has 38 bytes, that on no bytes 10.
     for (input, room) in [(bench(), 0), (bench(), 37), (vec![], 0), (vec![], 9)] {
         let mut out = bytes(room);
-        assert_eq!(report(&input, &mut out), Err(Refusal::Room));
+        assert_eq!(report(&input, &mut out), Err(Refusal::ShortOutput));
         assert_eq!(raw::report(&input, &mut out, &mut lent), 13);
         assert_eq!(out, bytes(room));
     }

@@ -20,7 +20,7 @@ returns-2 c =
     let r = c .before .before .before .before .before .before in
     let room = r .before .before .if1 .left in
     let answer = refused-in 6 _ reductionNumbers _ _ _ room (ap reductionOf (sym (c .before .before .cause .given .1)) ∙ r .reduce .ensures .0) (c .number .ensures) in
-    (answer .0, (answer .1, r .reduce .ensures .1 ∙ enough-room 6 _ _ _ room))
+    (answer .0, (answer .1, r .reduce .ensures .1 .0 ∙ enough-room 6 _ _ _ room))
 
 returns-3 : tie.Need-returns-3
 unfolding reduceCode reduceNumbers reduceOut reductionOf reductionNumbers
@@ -30,7 +30,7 @@ returns-3 c =
     let r = v .before .before .before .before in
     let room = r .before .before .if1 .left in
     let answer = found-in 6 _ reductionNumbers _ _ _ room (ap reductionOf (sym (v .r .given .1)) ∙ r .reduce .ensures .0) (p .put-all .ensures) in
-    (answer .0, (answer .1, r .reduce .ensures .1 ∙ enough-room 6 _ _ _ room))
+    (answer .0, (answer .1, r .reduce .ensures .1 .0 ∙ enough-room 6 _ _ _ room))
 
 pub fensullay-reduce-spec : {M : Type 1} → statement M
 fensullay-reduce-spec =

@@ -12,7 +12,7 @@ use Rattle.reduction.proofs.marking.is_better.Tie as tie
 
 returns : tie.Need-returns
 returns c = λ R e.
-    let m = c .before .rule-matches in sym (and-false-left _ (sym (m .ensures R e) ∙ not-true (m .result) (c .if1 .taken)))
+    let m = c .before .is-matched-by in sym (and-false-left _ (sym (m .ensures R e) ∙ not-true (m .result) (c .if1 .taken)))
 
 same-states-requires : tie.Need-same-states-requires
 same-states-requires c κs =
@@ -24,7 +24,7 @@ same-states-requires c κs =
 returns-2 : tie.Need-returns-2
 returns-2 c = λ R e.
     let b = c .before .before .before .before in
-    let m = b .before .rule-matches in
+    let m = b .before .is-matched-by in
     ap not (c .same-states .ensures)
     ∙ sym (better-same _ _ _ _ R (sym (m .ensures R e) ∙ not-false (m .result) (b .if1 .left)))
 

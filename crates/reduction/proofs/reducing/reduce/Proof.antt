@@ -2,9 +2,10 @@
 use borrow.Author.Needs.{needs}
 use denote.Ref.{now}
 use mathlib.Core.Path.{_≡_, refl, sym, ap, _∙_}
-use Prim.Native.Nat.{ℕ}
+use Prim.Native.Nat.{ℕ, _<_}
+use native.Mathlib.Omega.{arith}
 use mathlib.Core.List.{List}
-use lib.ListN.{length, length-map}
+use lib.ListN.{length, getD, length-map}
 use Rattle.automaton.specs.Automaton.{Automaton}
 use Rattle.automaton.specs.Answers.{writingOf}
 use Rattle.automaton.specs.Decoded.{sizeOf, automatonIn}
@@ -15,14 +16,21 @@ use Rattle.simulation.proofs.Queries.{refused-judged}
 use Rattle.reduction.specs.Reduce.{reduce, reductionRounds}
 use Rattle.reduction.proofs.Counting.{reduce-well-formed}
 use Rattle.reduction.proofs.Rewritten.{reduce-refused, reduce-short, reduce-written}
+use Rattle.reduction.proofs.Delivered.{promised}
 use Rattle.reduction.proofs.reducing.reduce.Statement.{statement}
 use Rattle.reduction.proofs.reducing.reduce.Tie as tie
+
+-- The table's bytes are below 256.
+bytes-low : (d : tie.After-decode) → (i : ℕ) → getD (now (d .before .before .before .before .before .args .table)) i 0 < 256
+bytes-low d i = omega (arith, d .before .before .before .before .shared-slice-known .given i)
 
 -- The table is refused.
 returns : tie.Need-returns
 returns c =
-    let d = c .before .before .before .before .decode in
-    reduce-refused _ _ _ (refused-judged _ (d .result) _ _ _ _ _ (d .ensures) (c .before .judged .given .1))
+    let f = c .before .before .before .before in
+    let d = f .decode in
+    promised _ _ _ _ (bytes-low f)
+    (reduce-refused _ _ _ (refused-judged _ (d .result) _ _ _ _ _ (d .ensures) (c .before .judged .given .1)))
 
 -- The table is not refused: what its arrays hold, before the steps and after them.
 abbrev start : tie.After-known-told2 → tie.Start
@@ -71,8 +79,9 @@ returns-2 c =
     let w = c .before .before .before .before .before in
     let r = reduced w in
     let h = held (at-table r) in
-    reduce-short _ _ _ (h .automaton) (left r) (h .judged) (left-reduced r) (w .write .ensures .1) _
-    (ap writingOf (sym (c .before .cause .given .1)) ∙ w .write .ensures .0)
+    promised _ _ _ _ (bytes-low (at-table r .before .before .before .before))
+    (reduce-short _ _ _ (h .automaton) (left r) (h .judged) (left-reduced r) (w .write .ensures .1) _
+    (ap writingOf (sym (c .before .cause .given .1)) ∙ w .write .ensures .0))
 
 states-counted : (size : Size) (finals ranks rows : List ℕ) → size .states ≡ automatonIn size finals ranks rows .states
 unfolding automatonIn
@@ -88,10 +97,11 @@ returns-3 c =
     let w = c .before .before .before .before .before in
     let r = reduced w in
     let h = held (at-table r) in
-    reduce-written _ _ _ (h .automaton) (left r) (h .judged) (left-reduced r) (w .write .ensures .1) _
+    promised _ _ _ _ (bytes-low (at-table r .before .before .before .before))
+    (reduce-written _ _ _ (h .automaton) (left r) (h .judged) (left-reduced r) (w .write .ensures .1) _
     (ap writingOf (sym (c .before .length .given .1)) ∙ w .write .ensures .0) (ap (λ (s : Size). s .states) (h .counts))
     (states-counted _ _ _ _) (ap (λ (s : Size). s .rules) (h .counts)) (rules-counted _ _ _ _)
-    (r .reduce-rows .ensures .1 .0 ∙ ap reductionRounds (h .holds))
+    (r .reduce-rows .ensures .1 .0 ∙ ap reductionRounds (h .holds)))
 
 pub reduce-spec : {M : Type 1} → statement M
 reduce-spec =

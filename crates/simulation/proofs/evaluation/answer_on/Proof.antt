@@ -10,22 +10,22 @@ use Rattle.simulation.proofs.evaluation.answer_on.Tie as tie
 
 returns : tie.Need-returns
 unfolding acceptanceOf
-returns c = λ rules trees tall holds. sym (not-one rules _ trees _ tall (c .if1 .taken))
+returns c = λ rules trees tall represents. sym (not-one rules _ trees _ tall (c .if1 .taken))
 
 returns-2 : tie.Need-returns-2
 unfolding acceptanceOf
-returns-2 c = λ rules trees tall holds.
+returns-2 c = λ rules trees tall represents.
     let o = c .before .before in
     sym
-    (one-answer rules _ _ (o .before .before .pre .0) _ trees (tall ∙ o .if1 .left) holds
+    (one-answer rules _ _ (o .before .before .pre .0) _ trees (tall ∙ o .if1 .left) represents
     ∙ ap found (sym (c .before .has-final .ensures) ∙ not-true _ (c .if2 .taken)))
 
 returns-3 : tie.Need-returns-3
 unfolding acceptanceOf
-returns-3 c = λ rules trees tall holds.
+returns-3 c = λ rules trees tall represents.
     let o = c .before .before in
     sym
-    (one-answer rules _ _ (o .before .before .pre .0) _ trees (tall ∙ o .if1 .left) holds
+    (one-answer rules _ _ (o .before .before .pre .0) _ trees (tall ∙ o .if1 .left) represents
     ∙ ap found (sym (c .before .has-final .ensures) ∙ not-false _ (c .if2 .left)))
 
 pub answer-on-spec : {M : Type 1} → statement M

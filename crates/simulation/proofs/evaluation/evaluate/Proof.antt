@@ -36,7 +36,7 @@ returns c =
     let t = s .before .before .before in
     let r = t .before .loop .inv .2 in
     reading-refused _ _ _ r (t .loop-test .taken) _ (s .before .before .symbol-at .ensures) _ _
-    (s .step .ensures (r .trees) (r .tall) (r .holds)) _ (c .before .cause .given .1)
+    (s .step .ensures (r .trees) (r .tall) (r .represents)) _ (c .before .cause .given .1)
 
 loop-again : tie.Need-loop-again Inv-loop μ-loop
 loop-again c =
@@ -46,7 +46,7 @@ loop-again c =
       search needs,
       s .step .kept .1 .1 .1 .1 .1 .1 .0 ∙ t .before .loop .inv .1,
       reading-next _ _ _ r (t .loop-test .taken) _ (s .before .before .symbol-at .ensures) _ _
-          (s .step .ensures (r .trees) (r .tall) (r .holds)) _ (c .before .h .given .1),
+          (s .step .ensures (r .trees) (r .tall) (r .represents)) _ (c .before .h .given .1),
     )
 
 returns-2 : tie.Need-returns-2 Inv-loop μ-loop

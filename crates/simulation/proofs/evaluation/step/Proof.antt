@@ -17,17 +17,17 @@ room c = omega (arith, start c .pre .0 .ranks-room, start c .pre .0 .symbols)
 
 returns : tie.Need-returns
 unfolding heightOf
-returns c = λ trees high holds. stacked-refused _ _ _ _ (push-symbol _ _ (room (c .before)) trees _ (c .if1 .taken)) refl
+returns c = λ trees high represents. stacked-refused _ _ _ _ (push-symbol _ _ (room (c .before)) trees _ (c .if1 .taken)) refl
 
 returns-2 : tie.Need-returns-2
 unfolding heightOf
-returns-2 c = λ trees high holds.
+returns-2 c = λ trees high represents.
     let k = c .before .before in
     stacked-refused _ _ _ _ (push-shape _ _ (room (k .before)) trees _ (k .if1 .left) (rw high (c .if2 .taken))) refl
 
 returns-3 : tie.Need-returns-3
 unfolding heightOf
-returns-3 c = λ trees high holds.
+returns-3 c = λ trees high represents.
     let k = c .before .before .before in
     stacked-refused _ _ _ _
     (push-bound _ _ (room (k .before)) trees _ (k .if1 .left) (rw high (c .before .if2 .left)) (rw high (c .if3 .taken))) refl
@@ -52,14 +52,14 @@ four : (c : tie.After-targets) → length (c .targets .result .words) ≡ 4
 four c = search (needs, c .targets .ok)
 
 returns-4 : tie.Need-returns-4
-returns-4 c = λ trees high holds.
+returns-4 c = λ trees high represents.
     let p = c .before .before in
     let t = p .before .before in
     let few = t .before .before in
     let known = few .before .before .before in
     let s = start (known .before) in
     rw (p .put-entry .ensures)
-    (stacked-node _ _ _ _ (room (known .before)) (s .pre .0 .rows-room) (s .pre .0 .ranged) _ trees _ _ high holds
+    (stacked-node _ _ _ _ (room (known .before)) (s .pre .0 .rows-room) (s .pre .0 .ranged) _ trees _ _ high represents
     (known .if1 .left) (few .before .if2 .left) (few .if3 .left) (fits s _ (few .if3 .left)) _ (four t) (t .targets .ensures))
 
 pub step-spec : {M : Type 1} → statement M

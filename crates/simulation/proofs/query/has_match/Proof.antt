@@ -34,8 +34,8 @@ loop-holds c = (search needs, λ R e. rw sub-zero)
 cast-if1 : tie.Need-cast-if1 Inv-loop μ-loop
 cast-if1 c = omega (arith, ranged-target (c .before .before .before .pre .1 (c .before .before .loop .j) (omega arith)))
 
-rule-matches-requires : tie.Need-rule-matches-requires Inv-loop μ-loop
-rule-matches-requires c κs =
+is-matched-by-requires : tie.Need-is-matched-by-requires Inv-loop μ-loop
+is-matched-by-requires c κs =
     let start = c .before .before .before .before in
     let j = c .before .before .before .loop .j in
     ((omega arith, omega arith), (start .pre .1 (start .args .i) (omega arith), start .pre .1 j (omega arith)))
@@ -50,7 +50,7 @@ returns c = λ R e.
     (turn .loop .inv .1 R e
     ∙ any-found test _ (turn .loop .j) (args .k) (omega arith)
     (and-true-in (eq-eqb _ _ (c .before .before .if1 .taken))
-    (sym (c .before .rule-matches .ensures R e) ∙ c .if2 .taken)))
+    (sym (c .before .is-matched-by .ensures R e) ∙ c .if2 .taken)))
 
 loop-again : tie.Need-loop-again Inv-loop μ-loop
 unfolding ruleAt
@@ -82,5 +82,5 @@ pub has-match-spec : {M : Type 1} → statement M
 has-match-spec =
     tie.close
     (tie.spec Inv-loop μ-loop loop-holds (λ c. search needs) (λ c. search needs) (λ c. search needs)
-    (λ c. search needs) cast-if1 rule-matches-requires returns (λ c. search needs) (λ c. search needs)
+    (λ c. search needs) cast-if1 is-matched-by-requires returns (λ c. search needs) (λ c. search needs)
     loop-again returns-2)

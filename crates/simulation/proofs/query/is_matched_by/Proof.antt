@@ -4,12 +4,12 @@ use mathlib.Core.Path.{refl, sym, ap, _∙_}
 use native.Mathlib.Omega.{arith}
 use lib.ListN.{getD}
 use borrow.Author.Needs.{needs}
-use Rattle.simulation.proofs.Queries.{ranged-children, matches-other, matches-same}
-use Rattle.simulation.proofs.query.rule_matches.Statement.{statement}
-use Rattle.simulation.proofs.query.rule_matches.Tie as tie
+use Rattle.simulation.proofs.Queries.{ranged-children, matched-by-other, matched-by-same}
+use Rattle.simulation.proofs.query.is_matched_by.Statement.{statement}
+use Rattle.simulation.proofs.query.is_matched_by.Tie as tie
 
 returns : tie.Need-returns
-returns c = λ R e. sym (matches-other R _ _ _ _ (c .if1 .taken))
+returns c = λ R e. sym (matched-by-other R _ _ _ _ (c .if1 .taken))
 
 children-paired-requires : tie.Need-children-paired-requires
 children-paired-requires c κs =
@@ -20,10 +20,10 @@ children-paired-requires c κs =
     ((omega arith, omega arith), (ranged-children (ranged .0) _ refl, ranged-children (ranged .1) _ same))
 
 returns-2 : tie.Need-returns-2
-returns-2 c = λ R e. c .children-paired .ensures R e ∙ sym (matches-same R _ _ _ _ (c .before .before .before .if1 .left))
+returns-2 c = λ R e. c .children-paired .ensures R e ∙ sym (matched-by-same R _ _ _ _ (c .before .before .before .if1 .left))
 
-pub rule-matches-spec : {M : Type 1} → statement M
-rule-matches-spec =
+pub is-matched-by-spec : {M : Type 1} → statement M
+is-matched-by-spec =
     tie.close
     (tie.spec (λ c. search needs) (λ c. search needs) (λ c. search needs) (λ c. search needs)
     (λ c. search needs) (λ c. search needs) returns (λ c. search needs) (λ c. search needs) (λ c. search needs)
