@@ -11,7 +11,7 @@
  *   kind 2   m bytes: the rank of each symbol, 0 to 8
  *   kind 3   the final states, two bytes each, strictly increasing
  *   kind 4   k times a rule: symbol, target state, as many child states as the symbol's rank; two bytes each
- * States, symbols and rules are numbered from 0. A TREE is one record of kind 16, with nothing behind it; its body is the symbols of the tree's
+ * States, symbols and rules are numbered from 0. A TREE is one record of kind 16, with nothing after it; its body is the symbols of the tree's
  * nodes in postfix order, two bytes each.
  *
  * A tree belongs to a state if some rule with that target has the tree's top symbol and the tree's children belong to the rule's child states, in
@@ -24,16 +24,16 @@
  *   - what a call may write overlaps nothing else that the call is given: `out` may not be the table itself;
  *   - tables, trees and counts hold values. `out` and `numbers` are only written, and need hold nothing beforehand.
  *
- * WHAT IT GETS. Every function answers one number:
- *   FENSULLAY_OK (0)      done; or yes, accepted
- *   1 to 13               refused: the number of the cause, below
- *   FENSULLAY_SHORT (100) the array for numbers or counts has fewer elements than the call needs; found before everything else
- *   FENSULLAY_NO (101)    no: not accepted, or not simulated
- * Refusals and SHORT leave `out` and `numbers` as they were, byte for byte. Behind a result, `out`, `numbers` and `counts` keep what they held. Tables
- * and trees are never written.
+ * WHAT IT GETS. Every function returns one number:
+ *   FENSULLAY_OK (0)              done; or yes, accepted
+ *   1 to 13                       refused: the number of the cause, below
+ *   FENSULLAY_SHORT_ARRAY (100)   the array for numbers or counts is too short; found before everything else
+ *   FENSULLAY_NO (101)            no: not accepted, or not simulated
+ * Refusals and SHORT_ARRAY leave `out` and `numbers` as they were, byte for byte. Of `counts` a check that refuses changes the third. After a result,
+ * `out`, `numbers` and `counts` keep what they held. Tables and trees are never written.
  *
  * The table is judged before the tree, the state numbers and the output. In each record of a table the causes come in the order 1, 2, 7 (a rule too
- * many), 3 (length), 4, 5, 6; but a rule's symbol (5) comes before the comparison with its rank (3), and its states (5) behind. Too few rules (7) is
+ * many), 3 (length), 4, 5, 6; but a rule's symbol (5) comes before the comparison with its rank (3), and its states (5) after. Too few rules (7) is
  * found at the end. Of a tree: 8, then the node limit (11), then node by node 9, 10, 11, at the end 10.
  *
  * The stack that a call needs is said with each function, as trials/bench measures it on the compiled library, rounded up. Leave room for what
@@ -54,20 +54,24 @@ typedef char fensullay_size_t_has_eight_bytes[sizeof(size_t) == 8 ? 1 : -1];
 
 enum {
     FENSULLAY_OK = 0,
-    FENSULLAY_BROKEN = 1,  /* table: what is left is not empty and holds no whole record, or a record's length is below 2 */
-    FENSULLAY_KIND = 2,    /* table: a record of another kind than the one that is due, or the table ends before its third record */
-    FENSULLAY_LENGTH = 3,  /* table: a body's length differs from the layout */
-    FENSULLAY_LIMIT = 4,   /* table: more than 256 states, 256 symbols or 1,024 rules, or a rank above 8 */
-    FENSULLAY_RANGE = 5,   /* table: a symbol not below the number of symbols, or a state not below the number of states */
-    FENSULLAY_ORDER = 6,   /* table: final states that do not strictly increase */
-    FENSULLAY_COUNT = 7,   /* table: a rule too many, or too few */
-    FENSULLAY_TREE = 8,    /* tree: not one whole record of kind 16 with an even body and nothing behind it */
-    FENSULLAY_SYMBOL = 9,  /* tree: a node's symbol is not below the table's number of symbols */
-    FENSULLAY_SHAPE = 10,  /* tree: a node has fewer finished trees before it than its rank, or the body does not end with one tree */
-    FENSULLAY_BOUND = 11,  /* tree: more than 16,384 nodes, or more than 1,024 finished trees waiting after a node */
-    FENSULLAY_STATE = 12,  /* a state number that is not below the table's number of states */
-    FENSULLAY_ROOM = 13,   /* the output is shorter than the result */
-    FENSULLAY_SHORT = 100,
+    /* Of the table: */
+    FENSULLAY_BROKEN_RECORD = 1,       /* what is left is not empty and holds no whole record, or a record's length is below 2 */
+    FENSULLAY_WRONG_KIND = 2,          /* a record of another kind than the one that is due, or the table ends before its third record */
+    FENSULLAY_WRONG_LENGTH = 3,        /* a body's length differs from the layout */
+    FENSULLAY_ABOVE_LIMIT = 4,         /* more than 256 states, 256 symbols or 1,024 rules, or a rank above 8 */
+    FENSULLAY_OUT_OF_RANGE = 5,        /* a symbol not below the number of symbols, or a state not below the number of states */
+    FENSULLAY_FINALS_OUT_OF_ORDER = 6, /* final states that do not strictly increase */
+    FENSULLAY_WRONG_RULE_COUNT = 7,    /* a rule too many, or too few */
+    /* Of the tree: */
+    FENSULLAY_NOT_A_TREE = 8,          /* not one whole record of kind 16 with an even body and nothing after it */
+    FENSULLAY_UNKNOWN_SYMBOL = 9,      /* a node's symbol is not below the table's number of symbols */
+    FENSULLAY_UNBALANCED = 10,         /* a node has fewer finished trees before it than its rank, or the body does not end with one tree */
+    FENSULLAY_TREE_ABOVE_LIMIT = 11,   /* more than 16,384 nodes, or more than 1,024 finished trees waiting after a node */
+    /* Of the query and of the output: */
+    FENSULLAY_UNKNOWN_STATE = 12,      /* a state number that is not below the table's number of states */
+    FENSULLAY_SHORT_OUTPUT = 13,       /* the output is shorter than the result */
+    /* Not refusals: */
+    FENSULLAY_SHORT_ARRAY = 100,
     FENSULLAY_NO = 101
 };
 
@@ -98,9 +102,9 @@ enum { FENSULLAY_REPORT_LENGTH, FENSULLAY_REPORT_NUMBERS };
 
 /*
  * Judges a table.
- *   OK         its states, symbols and rules stand in `numbers`
- *   1 to 7     the first cause, in the order above; `numbers` stays
- *   SHORT      fewer than 3 numbers; they stay
+ *   OK           its states, symbols and rules stand in `numbers`
+ *   1 to 7       the first cause, in the order above; `numbers` stays
+ *   SHORT_ARRAY  fewer than 3 numbers; they stay
  * Stack: less than 1 KiB. No heap, no threads, no locale.
  */
 uint32_t fensullay_judge(const uint8_t *table, size_t table_length, size_t *numbers, size_t numbers_length);
@@ -108,11 +112,11 @@ uint32_t fensullay_judge(const uint8_t *table, size_t table_length, size_t *numb
 /*
  * Checks a tree against a table. `counts` holds how many checks were accepted, not accepted and refused, zeros at the start; the call adds one to
  * the count of its answer, also where it refuses. A count at 4,294,967,295 stays there.
- *   OK         accepted
- *   NO         not accepted
- *   1 to 7     the table is refused; it is judged before the tree
- *   8 to 11    the tree is refused
- *   SHORT      fewer than 3 counts; they stay, and nothing is counted
+ *   OK           accepted
+ *   NO           not accepted
+ *   1 to 7       the table is refused; it is judged before the tree
+ *   8 to 11      the tree is refused
+ *   SHORT_ARRAY  fewer than 3 counts; they stay, and nothing is counted
  * Stack: 58 KiB. No heap, no threads, no locale.
  */
 uint32_t fensullay_check(
@@ -120,11 +124,11 @@ uint32_t fensullay_check(
 
 /*
  * Which states of a table are simulated by which.
- *   OK         `out` begins with 32 bytes for each state q, in which bit r % 8 (bit 0 has the value 1) of byte r / 8 is 1 if q <= r, and the
- *              others are 0; the rounds after which the relation stays and the number of its pairs stand in `numbers`
- *   1 to 7     the table is refused; `out` and `numbers` stay
- *   13         `out` has fewer than 32 bytes to a state of the table; it stays, and `numbers` too
- *   SHORT      fewer than 2 numbers; they stay, and `out` too
+ *   OK           `out` begins with 32 bytes for each state q, in which bit r % 8 (bit 0 has the value 1) of byte r / 8 is 1 if q <= r, and the
+ *                others are 0; the rounds after which the relation stays and the number of its pairs stand in `numbers`
+ *   1 to 7       the table is refused; `out` and `numbers` stay
+ *   13           `out` has fewer than 32 bytes to a state of the table; it stays, and `numbers` too
+ *   SHORT_ARRAY  fewer than 2 numbers; they stay, and `out` too
  * Stack: 51 KiB. No heap, no threads, no locale.
  */
 uint32_t fensullay_relate(
@@ -132,23 +136,23 @@ uint32_t fensullay_relate(
 
 /*
  * Whether state q is simulated by state r.
- *   OK         yes; `numbers` stays
- *   NO         no, and the number of a rule of q that no rule of r matches stands in `numbers`; which such rule is not promised
- *   1 to 7     the table is refused; `numbers` stays
- *   12         q or r is not below the table's number of states; `numbers` stays
- *   SHORT      numbers_length is 0
+ *   OK           yes; `numbers` stays
+ *   NO           no, and the number of a rule of q that no rule of r matches stands in `numbers`; which such rule is not promised
+ *   1 to 7       the table is refused; `numbers` stays
+ *   12           q or r is not below the table's number of states; `numbers` stays
+ *   SHORT_ARRAY  numbers_length is 0
  * Stack: 59 KiB. No heap, no threads, no locale.
  */
 uint32_t fensullay_compare(const uint8_t *table, size_t table_length, size_t q, size_t r, size_t *numbers, size_t numbers_length);
 
 /*
- * Reduces a table: the reduced one accepts the same trees, and a check of any bytes answers and counts alike on both.
- *   OK         `out` begins with the reduced table; its length, the states of the table and of the reduced one, the rules of both, and the rounds
- *              stand in `numbers`. The rounds are those of the simulation on what is left without the states to which no tree belongs: fensullay_relate
- *              may give another number for the same table
- *   1 to 7     the table is refused; `out` and `numbers` stay
- *   13         `out` is shorter than the reduced table; it stays, and `numbers` too. An `out` as long as the table is never too short
- *   SHORT      fewer than 6 numbers; they stay, and `out` too
+ * Reduces a table: the reduced one accepts the same trees, and a check of any bytes gives the same answer and the same counts on both.
+ *   OK           `out` begins with the reduced table; its length, the states of the table and of the reduced one, the rules of both, and the rounds
+ *                stand in `numbers`. The rounds are those of the simulation on what is left without the states to which no tree belongs: fensullay_relate
+ *                may give another number for the same table
+ *   1 to 7       the table is refused; `out` and `numbers` stay
+ *   13           `out` is shorter than the reduced table; it stays, and `numbers` too. An `out` as long as the table is never too short
+ *   SHORT_ARRAY  fewer than 6 numbers; they stay, and `out` too
  * Stack: 61 KiB. No heap, no threads, no locale.
  */
 uint32_t fensullay_reduce(
@@ -161,9 +165,9 @@ uint32_t fensullay_reduce(
  *     rules OLD NEW
  *     rounds NUMBER
  * It looks at the first 27,417 bytes of the input, so that on a longer input the number may differ from fensullay_judge's.
- *   OK         `out` begins with the lines, also with those of a refused table, without a 0 behind them; their length stands in `numbers`
- *   13         `out` is shorter than the lines; it stays, and `numbers` too
- *   SHORT      numbers_length is 0; `out` stays
+ *   OK           `out` begins with the lines, also with those of a refused table, without a 0 after them; their length stands in `numbers`
+ *   13           `out` is shorter than the lines; it stays, and `numbers` too
+ *   SHORT_ARRAY  numbers_length is 0; `out` stays
  * Stack: 61 KiB. No heap, no threads, no locale.
  */
 uint32_t fensullay_report(

@@ -143,7 +143,7 @@ pub struct Relation {
 }
 
 /// Writes which states are simulated by which: `RELATION_ROW` bytes for each state q, in which bit
-/// r % 8 of byte r / 8 is 1 if q is simulated by r, and the others are 0. The bytes behind them
+/// r % 8 of byte r / 8 is 1 if q is simulated by r, and the others are 0. The bytes after them
 /// stay; after a refusal all stay.
 pub fn relate(table: &[u8], out: &mut [u8]) -> Result<Relation, Refusal> {
     let [rounds, pairs] = writing(sys::fensullay_relate, table, out)?;
@@ -198,7 +198,7 @@ pub struct Reduction {
     pub rounds: usize,
 }
 
-/// Writes the reduced table, which accepts the same trees. The bytes behind it stay; after a
+/// Writes the reduced table, which accepts the same trees. The bytes after it stay; after a
 /// refusal all stay. An `out` as long as the table is never too short.
 pub fn reduce(table: &[u8], out: &mut [u8]) -> Result<Reduction, Refusal> {
     let [length, old_states, new_states, old_rules, new_rules, rounds] =
@@ -214,8 +214,8 @@ pub fn reduced(table: &[u8]) -> Result<(Vec<u8>, Reduction), Refusal> {
     Ok((out, reduction))
 }
 
-/// Writes the lines of the report on a table and answers their length; a refused table has its
-/// line too. The bytes behind them stay. The only refusal is `Room`, and then all stay.
+/// Writes the lines of the report on a table and returns their length; a refused table has its
+/// line too. The bytes after them stay. The only refusal is `ShortOutput`, and then all stay.
 pub fn report(input: &[u8], out: &mut [u8]) -> Result<usize, Refusal> {
     let [length] = writing(sys::fensullay_report, input, out)?;
     Ok(length)
@@ -257,6 +257,6 @@ fn done(code: u32) -> Result<(), Refusal> {
 fn refusal(code: u32) -> Refusal {
     match Refusal::from_number(code) {
         Some(refusal) => refusal,
-        None => unreachable!("the library answers no {code}"),
+        None => unreachable!("the library returns no {code}"),
     }
 }

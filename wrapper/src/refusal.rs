@@ -18,7 +18,7 @@ pub enum Refusal {
     FinalsOutOfOrder = 6,
     /// A rule too many, or too few.
     WrongRuleCount = 7,
-    /// Not one whole record of kind 16 with an even body and nothing behind it.
+    /// Not one whole record of kind 16 with an even body and nothing after it.
     NotATree = 8,
     /// A node's symbol is not below the table's number of symbols.
     UnknownSymbol = 9,
@@ -78,7 +78,7 @@ impl fmt::Display for Refusal {
             Self::FinalsOutOfOrder => "the table's final states do not strictly increase",
             Self::WrongRuleCount => "the table has a rule too many, or too few",
             Self::NotATree => {
-                "the tree is not one whole record of kind 16 with an even body and nothing behind it"
+                "the tree is not one whole record of kind 16 with an even body and nothing after it"
             }
             Self::UnknownSymbol => "a symbol of the tree is not below the table's number of symbols",
             Self::Unbalanced => {

@@ -31,7 +31,7 @@ end-within b = go (opened b) refl
     go nothing e = le-refl (length b)
     go (records.refused cause) e = le-refl (length b)
 
--- What stands behind the first record, as the code's `&b[end..]` gives it.
+-- What stands after the first record, as the code's `&b[end..]` gives it.
 pub part-behind : (b : List ℕ) {end : ℕ} → end ≡ firstEnd b → take (length b - end) (drop end b) ≡ restOf b
 unfolding restOf
 part-behind b e = rw (part-to-end, e)
@@ -72,7 +72,7 @@ rule-row n ranks body h =
     let f = rule-found n ranks body h in
     rw (f .rule, two-numbers body (f .start))
 
--- The rows of rules, one behind the other.
+-- The rows of rules, one after the other.
 
 pub length-row : (u : Rule) → length (row u) ≡ 10
 unfolding row

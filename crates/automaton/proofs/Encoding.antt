@@ -63,7 +63,7 @@ judge-well-formed b A h =
 
 -- What is judged encodes to its bytes.
 
--- A record and the bytes behind it, its body given as bytes and as fields.
+-- A record and the bytes after it, its body given as bytes and as fields.
 body-encoded :
     (b body more : List ℕ) {kind end : ℕ} → opened b ≡ whole kind end → Bytes b → body ≡ bodyOf b → more ≡ drop end b
     → encodeRecord kind body ++ more ≡ b

@@ -10,7 +10,7 @@ use lib.Seq.{drop-cons, drop-drop, getD-drop}
 use Rattle.automaton.specs.Lists.{All, none, also}
 use Rattle.automaton.specs.Bytes.{number2, number4, numbers, bytes2, bytes4, fields}
 
--- The next field, and the fields behind it.
+-- The next field, and the fields after it.
 pub numbers-step : (b : List ℕ) (i : ℕ) → i + 1 < length b → numbers (drop i b) ≡ number2 (drop i b) ∷ numbers (drop (i + 2) b)
 unfolding numbers number2
 numbers-step b i h = rw (add-two, drop-cons b i 0 (omega arith), drop-cons b (suc i) 0 (omega arith))

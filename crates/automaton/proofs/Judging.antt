@@ -1,4 +1,4 @@
--- The judge's verdict on a part, from the verdicts on its records: one law for each way through the code behind a record that is due.
+-- The judge's verdict on a part, from the verdicts on its records: one law for each way through the code after a record that is due.
 use Prim.Native.Nat.{ℕ, zero, suc, _+_, _-_, _*_, _%_, _≤_, _<_}
 use native.Mathlib.Omega.{arith}
 use mathlib.Core.Path.{_≡_, refl, sym, ap}

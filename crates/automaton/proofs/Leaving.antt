@@ -1,4 +1,4 @@
--- What a call that refuses leaves as it was: an output for which its bytes are too many, also where it answers more than their length.
+-- What a call that refuses leaves as it was: an output for which its bytes are too many, also where it returns more than their length.
 use Prim.Native.Nat.{ℕ}
 use mathlib.Core.Path.{_≡_, refl, sym}
 use mathlib.Core.Bool.{Bool, true, false, cond}

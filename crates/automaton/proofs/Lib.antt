@@ -1,5 +1,6 @@
 pub mod Examples
 pub mod Elements
+pub mod Ranges
 pub mod Keeping
 pub mod Distinctness
 pub mod Opening

@@ -70,7 +70,7 @@ opened-within (x ∷ b) kind end h = go (leb 2 (number4 (x ∷ b))) (leb (4 + nu
     go true false e f g = absurd (refused≢whole g)
     go false t e f g = absurd (refused≢whole g)
 
--- The body of a record that opens, and the bytes behind it.
+-- The body of a record that opens, and the bytes after it.
 
 pub body-within : (b : List ℕ) {kind end : ℕ} → opened b ≡ whole kind end → bodyOf b ≡ take (end - 6) (drop 6 b)
 unfolding bodyOf bodyIn

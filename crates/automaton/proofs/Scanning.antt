@@ -13,7 +13,7 @@ use Rattle.automaton.specs.Lists.{all, risingFrom, rising}
 use Rattle.automaton.specs.Bytes.{number2, numbers}
 use Rattle.automaton.proofs.Fields.{numbers-step, numbers-end}
 
--- A test of all fields, or of all bytes, from an index on: it fails at the first that fails, goes on behind one that
+-- A test of all fields, or of all bytes, from an index on: it fails at the first that fails, goes on after one that
 -- passes, and holds at the end.
 module _ (test : ℕ → Bool) (b : List ℕ) (i : ℕ) where
   pub fields-stop : i + 1 < length b → test (number2 (drop i b)) ≡ false → all test (numbers (drop i b)) ≡ false

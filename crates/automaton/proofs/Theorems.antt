@@ -45,12 +45,12 @@ table-length b A bytes e =
     subst (λ (l : List ℕ). (24 ≤ length l) × (length l ≤ 27416)) (encode-judged b A bytes e)
     (encoding.encode-length A (judged-well-formed b A e))
 
--- The arrays that decoding fills, whatever stands behind their content, hold the automaton.
+-- The arrays that decoding fills, whatever stands after their content, hold the automaton.
 pub decoded-means : (A : Automaton) → WellFormed A → (x y : List ℕ)
     → automatonIn (sizeOf A) (setOf (A .finals)) (A .ranks ++ x) (rows (A .rules) ++ y) ≡ A
 decoded-means = meaning.automaton-back
 
--- What `decode` answers for a table that it does not refuse can be written, and is then the table's own bytes.
+-- What `decode` returns for a table that it does not refuse can be written, and is then the table's own bytes.
 pub decoded-writable : (b : List ℕ) (r : Decoded) (size : Size) (ranks ranks′ cells cells′ : List ℕ)
     → Decodes b r ranks ranks′ cells cells′ → r .judged ≡ Table size
     → (size .symbols ≤ 256) × WellFormed (automatonIn size (r .finals .words) ranks′ cells′)

@@ -1,4 +1,4 @@
--- Bytes written over a buffer: one run behind another, runs that grow turn by turn; the parts of a table in bytes.
+-- Bytes written over a buffer: one run after another, runs that grow turn by turn; the parts of a table in bytes.
 use Prim.Native.Nat.{ℕ, zero, suc, _+_, _-_, _*_, _/_, _%_, _≤_, _<_}
 use mathlib.Core.Path.{_≡_, refl, sym, ap, ap₂, _∙_}
 use mathlib.Core.List.{List, [], _∷_, _++_, map, append-assoc, append-nil, map-append}
@@ -29,7 +29,7 @@ pub over-nil : (out : List ℕ) (at : ℕ) → out ≡ over out at []
 unfolding over
 over-nil out at = paste-zero out at []
 
--- A run behind a first part.
+-- A run after a first part.
 pub over-behind : (p q bytes : List ℕ) (at : ℕ) → length p ≡ at → over (p ++ q) at bytes ≡ (p ++ bytes) ++ drop (length bytes) q
 unfolding over
 over-behind p q bytes at e =
@@ -45,7 +45,7 @@ over-copy out at src j h l =
     pasted : (n : ℕ) → n ≤ length src → paste out at src n ≡ over out at (take n src)
     pasted n h = rw (length-take-le n src h, take-take n n src (omega arith))
 
--- One run behind another is one run.
+-- One run after another is one run.
 over-over : (out : List ℕ) (at : ℕ) (xs ys : List ℕ) (k : ℕ) → k ≡ at + length xs → k + length ys ≤ length out
     → over (over out at xs) k ys ≡ over out at (xs ++ ys)
 unfolding over
@@ -288,7 +288,7 @@ module _ (size : Size) (finals ranks rows : List ℕ) where
         ≡ 24 + size .symbols + 2 * length (keep (member finals) (from 0 (size .states))) + length rule-records
     length-encode = rw (encode-records, length-append, length-three)
 
-    -- The four parts, each written behind the one before.
+    -- The four parts, each written after the one before.
     pub over-records : (out : List ℕ) (count : ℕ) → count ≡ length (keep (member finals) (from 0 (size .states)))
         → length (encode (automatonIn size finals ranks rows)) ≤ length out → (a b c d : List ℕ)
         → a ≡ over out 0 size-record → b ≡ over a 12 ranks-record → c ≡ over b (18 + size .symbols) finals-record

@@ -18,6 +18,7 @@ pub record Automaton : Type 0 where
   pub finals : List ℕ
   pub rules : List Rule
 
+-- `getD xs i d` is element i of xs, and d where xs has no element i. The rank's 0 is never read: `symbol` is below the number of ranks.
 pub record WellFormedRule (A : Automaton) (u : Rule) : Type 0 where
   pub symbol : u .symbol < length (A .ranks)
   pub arity : length (u .children) ≡ getD (A .ranks) (u .symbol) 0

@@ -40,7 +40,7 @@ unfoldable pub rows : List Rule → List ℕ
 rows [] = []
 rows (u ∷ us) = row u ++ rows us
 
--- The lent arrays, of 256 and of 10,240 numbers, after decoding: what was read, with the old content behind it. A refusal leaves them.
+-- The lent arrays, of 256 and of 10,240 numbers, after decoding: what was read, with the old content after it. A refusal leaves them.
 unfoldable pub ranksAfter : Read Automaton → List ℕ → List ℕ
 ranksAfter (found A) old = A .ranks ++ drop (length (A .ranks)) old
 ranksAfter (refused cause) old = old
@@ -49,7 +49,8 @@ unfoldable pub rowsAfter : Read Automaton → List ℕ → List ℕ
 rowsAfter (found A) old = rows (A .rules) ++ drop (10 * length (A .rules)) old
 rowsAfter (refused cause) old = old
 
--- The automaton that such arrays hold: the final states in order, and rule i in the ten numbers from 10 i on.
+-- The automaton that such arrays hold: the final states in order, and rule i in the ten numbers from 10 i on. The zeros of `getD` are never
+-- read: the arrays have 256 ranks and ten numbers for each of 1,024 rules.
 unfoldable pub ruleAt : List ℕ → List ℕ → ℕ → Rule
 ruleAt ranks table i = record {
   symbol = getD table (10 * i) 0;
@@ -66,7 +67,7 @@ automatonIn size finals ranks table = record {
 }
 
 -- Bytes written into a lent buffer: the answer, their length or 13 where the room is short, and the buffer afterwards,
--- in which what stands behind the result stays.
+-- in which what stands after the result stays.
 unfoldable pub written : List ℕ → List ℕ → Read ℕ
 written bytes out = cond (leb (length bytes) (length out)) (found (length bytes)) (refused 13)
 

@@ -1,4 +1,4 @@
--- What only the contracts of inner functions cite; the meaning of the public calls needs none of it.
+-- What the contracts of inner functions and of `put_bytes`, which is exported for the crates above, cite; no call for everybody cites any of it.
 use Prim.Native.Nat.{ℕ, _*_, _≤_, _<_}
 use mathlib.Core.List.{List}
 use lib.ListN.{length, drop, getD}
@@ -28,7 +28,7 @@ unfoldable pub verdictOf : Verdict → Read (Unit {0})
 verdictOf verdict.Passed = found tt
 verdictOf (verdict.Refused cause) = refused (numberOf cause)
 
--- Where the first record ends, or where the bytes end if none opens; and the bytes behind.
+-- Where the first record ends, or where the bytes end if none opens; and the bytes after.
 unfoldable pub endIn : Opening → List ℕ → ℕ
 endIn (whole kind end) b = end
 endIn nothing b = length b

@@ -24,7 +24,8 @@ due kind missing b = dueIn kind missing (opened b)
 unfoldable pub ruleIn : List ℕ → Rule
 ruleIn body = record { symbol = number2 body; target = number2 (drop 2 body); children = numbers (drop 4 body) }
 
--- A rule's body. Its symbol (5) precedes the comparison with its rank (3), and its states (5) follow.
+-- A rule's body. Its symbol (5) precedes the comparison with its rank (3), and its states (5) follow. The symbol is below the number of
+-- ranks where its rank is read.
 unfoldable pub judgeRule : ℕ → List ℕ → List ℕ → Read Rule
 judgeRule n ranks body = do
   check (leb 4 (length body)) 3
@@ -33,7 +34,7 @@ judgeRule n ranks body = do
   check (all (λ (q : ℕ). ltb q n) (numbers (drop 2 body))) 5
   found (ruleIn body)
 
--- k rules and nothing behind them: what stands there is 1, 2 or a rule too many (7). Too few (7) is found at the end.
+-- k rules and nothing after them: what stands there is 1, 2 or a rule too many (7). Too few (7) is found at the end.
 unfoldable pub judgeRules : ℕ → List ℕ → ℕ → List ℕ → Read (List Rule)
 judgeRules n ranks zero [] = found []
 judgeRules n ranks zero (x ∷ b) = do
@@ -45,7 +46,7 @@ judgeRules n ranks (suc k) b = do
   rules ← judgeRules n ranks k (drop end b)
   found (rule ∷ rules)
 
--- The final states, and the rules behind them.
+-- The final states, and the rules after them.
 unfoldable pub judgeFinals : ℕ → List ℕ → ℕ → List ℕ → Read Automaton
 judgeFinals n ranks k b = do
   end ← due 3 2 b
@@ -55,7 +56,7 @@ judgeFinals n ranks k b = do
   rules ← judgeRules n ranks k (drop end b)
   found (record { states = n; ranks = ranks; finals = numbers (bodyOf b); rules = rules })
 
--- The ranks, and what is behind them.
+-- The ranks, and what is after them.
 unfoldable pub judgeRanks : ℕ → ℕ → ℕ → List ℕ → Read Automaton
 judgeRanks n m k b = do
   end ← due 2 2 b
@@ -63,7 +64,7 @@ judgeRanks n m k b = do
   check (all (λ (r : ℕ). leb r 8) (bodyOf b)) 4
   judgeFinals n (bodyOf b) k (drop end b)
 
--- The whole table: states n, symbols m, rules k, and what is behind them.
+-- The whole table: states n, symbols m, rules k, and what is after them.
 unfoldable pub judge : List ℕ → Read Automaton
 judge b = do
   end ← due 1 2 b

@@ -21,7 +21,7 @@ use crate::table::Judged;
 use crate::table::judge;
 use crate::writing::put_bytes;
 
-// What judging a table answers, and its final states: none where it is refused.
+// What judging a table returns, and its final states: none where it is refused.
 pub struct Decoded {
     pub judged: Judged,
     pub finals: StateSet,
@@ -89,7 +89,7 @@ fn put_rows(t: &[u8], rows: &mut [u16], k: usize)
     }
 }
 
-// The final states, and the rows of the k rules behind them.
+// The final states, and the rows of the k rules after them.
 fn decode_finals(t: &[u8], rows: &mut [u16], k: usize) -> StateSet
     requires { ⌜ All (λ (q : ℕ). q < 256) (numbers (bodyOf (now t))) ⌝ }
     requires { ⌜ 10 * k ≤ length (now rows) ⌝ }

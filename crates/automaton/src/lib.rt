@@ -8,6 +8,7 @@ mod set;
 mod table;
 mod writing;
 
+// Calls for everybody, with their answers: they ask nothing of their caller.
 pub use decoding::Decoded;
 pub use decoding::decode;
 pub use record::Opened;
@@ -15,10 +16,12 @@ pub use record::body;
 pub use record::open;
 pub use refusal::Refusal;
 pub use refusal::number;
-pub use set::StateSet;
 pub use table::Judged;
 pub use table::Size;
 pub use table::judge;
+
+// Exported for the crates above: these ask for states, numbers or arrays in range.
+pub use set::StateSet;
 pub use writing::Written;
 pub use writing::put_bytes;
 pub use writing::write;

@@ -145,7 +145,7 @@ fn next_rule(t: &[u8], n: usize, ranks: &[u8]) -> Place
     }
 }
 
-// What stands behind the last rule: nothing, or a cause of refusal.
+// What stands after the last rule: nothing, or a cause of refusal.
 fn judge_end(t: &[u8]) -> Verdict
     ensures { λ r. ⌜ verdictOf r ≡ passing (table.judgeRules 0 [] 0 (now (t .entry))) ⌝ }
 {
@@ -158,7 +158,7 @@ fn judge_end(t: &[u8]) -> Verdict
     }
 }
 
-// k rules, and nothing behind them.
+// k rules, and nothing after them.
 fn judge_rules(t: &[u8], n: usize, ranks: &[u8], k: usize) -> Verdict
     ensures { λ r. ⌜ verdictOf r ≡ passing (table.judgeRules n (now (ranks .entry)) k (now (t .entry))) ⌝ }
 {
@@ -176,7 +176,7 @@ fn judge_rules(t: &[u8], n: usize, ranks: &[u8], k: usize) -> Verdict
     judge_end(rest)
 }
 
-// The record of the final states, and the rules behind it.
+// The record of the final states, and the rules after it.
 fn judge_finals(t: &[u8], n: usize, ranks: &[u8], k: usize) -> Verdict
     ensures { λ r. ⌜ verdictOf r ≡ passing (table.judgeFinals n (now (ranks .entry)) k (now (t .entry))) ⌝ }
 {
@@ -197,7 +197,7 @@ fn judge_finals(t: &[u8], n: usize, ranks: &[u8], k: usize) -> Verdict
     judge_rules(&t[end..], n, ranks, k)
 }
 
-// The record of the ranks, and what is behind it.
+// The record of the ranks, and what is after it.
 fn judge_ranks(t: &[u8], size: Size) -> Verdict
     ensures { λ r. ⌜ verdictOf r ≡ passing (table.judgeRanks (size .states) (size .symbols) (size .rules) (now (t .entry))) ⌝ }
 {
@@ -215,7 +215,7 @@ fn judge_ranks(t: &[u8], size: Size) -> Verdict
     judge_finals(&t[end..], size.states, ranks, size.rules)
 }
 
-// Judges a table: its counts, or the first cause of refusal in document 01's order. Answers for any bytes.
+// Judges a table: its counts, or the first cause of refusal in document 01's order. It takes any bytes.
 pub fn judge(t: &[u8]) -> Judged
     ensures { λ r. ⌜ judgementOf r ≡ sized (table.judge (now (t .entry))) ⌝ }
 {

@@ -147,7 +147,7 @@ fn rules_length(ranks: &[u8], rows: &[u16], k: usize) -> usize
     total
 }
 
-// k rules, one behind the other.
+// k rules, one after the other.
 fn put_rules(out: &mut [u8], at: usize, ranks: &[u8; 256], rows: &[u16; 10240], k: usize)
     requires { ⌜ k ≤ 1024 ⌝ }
     requires { ⌜ ((i : ℕ) → i < k → RowFits (now ranks) (now rows) i) ⌝ }
@@ -198,7 +198,7 @@ fn put_finals(out: &mut [u8], at: usize, set: StateSet, n: usize, count: usize)
     put_states(out, at + 6, set, n);
 }
 
-// Writes a decoded table to the start of `out` and answers its length; refusal 13, and nothing written, where the room is short.
+// Writes a decoded table to the start of `out` and returns its length; refusal 13, and nothing written, where the room is short.
 // The arrays must hold a well-formed automaton, as `decode` leaves them; states of the set that are not below `size.states` are none.
 pub fn write(
     size: Size,

@@ -2,7 +2,7 @@
 ghost use Prim.Native.Nat.{_≤_, _<_};
 ghost use Rattle.io.specs.Counts.{Counts};
 
-// What `number` answers where the input has ended: more than any number.
+// What `number` returns where the input has ended: more than any number.
 pub const ENDED: usize = 4294967296;
 
 // The next number of the input, of `width` bytes, one to four, little-endian; ENDED where the input has ended.

@@ -1,5 +1,5 @@
 // Reads cases from standard input, each a table, a tree and three counts, and writes the answer of a check and the counts after it.
-// A case: its name, behind a byte of length; the table and the tree, each behind four bytes of length; the counts, four bytes each.
+// A case: its name, after a byte of length; the table and the tree, each after four bytes of length; the counts, four bytes each.
 use automaton::number;
 use cases::end_line;
 use cases::write_number;

@@ -1,4 +1,4 @@
--- What the exported pair query answers, from what the pair query promises.
+-- What the exported pair query returns, from what the pair query promises.
 use Prim.Native.Nat.{ℕ, _≤_}
 use native.Mathlib.Omega.{arith}
 use mathlib.Core.Path.{_≡_, refl, sym, ap, _∙_}

@@ -9,7 +9,7 @@ use Rattle.automaton.specs.Read.{Read, found, refused}
 use Rattle.automaton.proofs.Leaving.{Keeps}
 use Rattle.fensullay.specs.Exports.{codeOf, numbersAfter, ifRoom}
 
--- A call that does not answer 0 has too short an array for its numbers, or refuses.
+-- A call that does not return 0 has too short an array for its numbers, or refuses.
 module _ {A : Type 0} (need : ℕ) (numbers : List ℕ) (x : Read A) where
   pub array-left : (after before : List ℕ) → Keeps x after before → (ifRoom need numbers (codeOf x) 100 ≡ 0 → ⊥)
       → ifRoom need numbers after before ≡ before

@@ -1,4 +1,4 @@
--- What the exported report answers: its lines have room in `out`, or 13.
+-- What the exported report returns: its lines have room in `out`, or 13.
 use Prim.Native.Nat.{ℕ, _≤_, _<_}
 use native.Mathlib.Omega.{arith}
 use mathlib.Core.Path.{_≡_, refl, sym, ap, _∙_}

@@ -66,22 +66,22 @@ pub report-means : (input out numbers : List ℕ) → WorkMeans (Just 13) 1 numb
 unfolding reportCode written
 report-means input out numbers = work-means (λ cause p. omega arith) 1 numbers (search causes)
 
--- Where judging does not answer 0, the numbers are what they were.
+-- Where judging does not return 0, the numbers are what they were.
 pub judge-leaves : (table numbers : List ℕ) → (judgeCode table numbers ≡ 0 → ⊥) → judgeNumbers table numbers ≡ numbers
 unfolding judgeCode judgeNumbers
 judge-leaves table numbers = numbers-left 3 numbers (sized (judge table)) sizeNumbers
 
--- A check adds its refusals to the counts: these are what they were where it answers 100.
+-- A check adds its refusals to the counts: these are what they were where it returns 100.
 pub check-leaves : (counts table tree : List ℕ) → checkCode counts table tree ≡ 100 → checkCounts counts table tree ≡ counts
 unfolding checkCounts
 check-leaves counts table tree h = sym (too-few 3 counts _ counts (check-means counts table tree .short .0 h))
 
--- A pair query that does not answer 101 leaves the numbers: `ComparesInto` is its promise.
+-- A pair query that does not return 101 leaves the numbers: `ComparesInto` is its promise.
 pub compare-leaves : (table : List ℕ) (q r : ℕ) (numbers : List ℕ) (code : ℕ) (numbers′ : List ℕ)
     → ComparesInto table q r numbers code numbers′ → (code ≡ 101 → ⊥) → numbers′ ≡ numbers
 compare-leaves table q r numbers code numbers′ c = c .otherwise
 
--- Where a relation query, reducing or the report does not answer 0, the numbers and the output are what they were.
+-- Where a relation query, reducing or the report does not return 0, the numbers and the output are what they were.
 pub relate-leaves : (table out numbers : List ℕ) → (relateCode table out numbers ≡ 0 → ⊥)
     → (relateNumbers table out numbers ≡ numbers) × (relateOut table out numbers ≡ out)
 unfolding relateCode relateNumbers relateOut
@@ -107,7 +107,7 @@ report-leaves input out numbers h =
 pub report-short : (input : List ℕ) → length (report input) ≤ 64
 report-short = reporting.report-short
 
--- A call of reducing that answered 0: its numbers and its bytes meet demand 3.
+-- A call of reducing that returned 0: its numbers and its bytes meet demand 3.
 pub reduced-demand-3 : (table out numbers out′ numbers′ : List ℕ) → ((i : ℕ) → getD table i 0 < 256)
     → reduceCode table out numbers ≡ 0 → numbers′ ≡ reduceNumbers table out numbers → out′ ≡ reduceOut table out numbers
     → (r : Reduction) × (numbers′ ≡ reductionNumbers r ++ drop 6 numbers) × Demand3 table out r (take (r .length) out′)
@@ -120,7 +120,7 @@ reduced-demand-3 table out numbers out′ numbers′ bytes code after over =
       rw (over ∙ sym (enough-room 6 numbers _ _ enough)) (demand-3 table out r bytes e),
     )
 
--- Under demand 3 a check against either table answers the same number and leaves the same counts.
+-- Under demand 3 a check against either table returns the same number and leaves the same counts.
 pub same-check-code : (table out : List ℕ) (r : Reduction) (bytes : List ℕ) → Demand3 table out r bytes → (counts tree : List ℕ)
     → (checkCode counts table tree ≡ checkCode counts bytes tree) × (checkCounts counts table tree ≡ checkCounts counts bytes tree)
 unfolding checkCode checkCounts

@@ -32,7 +32,7 @@ yesNoCodeOf (refused cause) = cause
 unfoldable pub ifRoom : {A : Type 0} → ℕ → List ℕ → A → A → A
 ifRoom need array enough short = cond (leb need (length array)) enough short
 
--- The call's numbers at the start of an array: what stands behind them stays, and a refusal leaves the whole.
+-- The call's numbers at the start of an array: what stands after them stays, and a refusal leaves the whole.
 unfoldable pub numbersAfter : {A : Type 0} → (A → List ℕ) → Read A → List ℕ → List ℕ
 numbersAfter numbersOf (found a) numbers = numbersOf a ++ drop (length (numbersOf a)) numbers
 numbersAfter numbersOf (refused cause) numbers = numbers
@@ -47,7 +47,7 @@ judgeCode table numbers = ifRoom 3 numbers (codeOf (sized (judge table))) 100
 unfoldable pub judgeNumbers : List ℕ → List ℕ → List ℕ
 judgeNumbers table numbers = ifRoom 3 numbers (numbersAfter sizeNumbers (sized (judge table)) numbers) numbers
 
--- Checking: the counts accepted, not accepted, refused, as they are lent and afterwards.
+-- Checking: the counts accepted, not accepted, refused, as they are lent and afterwards. `ifRoom` has seen that there are three.
 unfoldable pub countsIn : List ℕ → Counts
 countsIn counts = record { accepted = getD counts 0 0; rejected = getD counts 1 0; refused = getD counts 2 0 }
 

@@ -17,7 +17,7 @@ UpToOr last other cause = UpTo last cause ⊎ (cause ≡ other)
 abbrev pub Just : ℕ → ℕ → Type 0
 Just one cause = cause ≡ one
 
--- The number that a call answers which needs some elements in an array and reads x: 0 where it found something, or found yes; x's refusal, by
+-- The number that a call returns which needs some elements in an array and reads x: 0 where it found something, or found yes; x's refusal, by
 -- one of the call's causes; 100 where the array has fewer elements; 101 where it found no. Each means that alone, and there are no others.
 pub record Means {A : Type 0} (Cause : ℕ → Type 0) (need : ℕ) (array : List ℕ) (x : Read A) (Done No : Type 0) (code : ℕ) : Type 0 where
   pub done : (code ≡ 0) ↔ ((need ≤ length array) × Done)
@@ -26,7 +26,7 @@ pub record Means {A : Type 0} (Cause : ℕ → Type 0) (need : ℕ) (array : Lis
   pub no : (code ≡ 101) ↔ ((need ≤ length array) × No)
   pub only : (code ≡ 0) ⊎ (Cause code ⊎ ((code ≡ 100) ⊎ (code ≡ 101)))
 
--- Of a call that does some work 0 means that it did, and 101 is never answered.
+-- Of a call that does some work 0 means that it did, and 101 is never returned.
 abbrev pub WorkMeans : {A : Type 0} → (ℕ → Type 0) → ℕ → List ℕ → Read A → ℕ → Type 0
 WorkMeans {A} Cause need array x = Means Cause need array x ((a : A) × (x ≡ found a)) ⊥
 

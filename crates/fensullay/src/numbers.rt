@@ -6,7 +6,7 @@ ghost use lib.ListN.{length, drop};
 ghost use Rattle.fensullay.specs.Exports as spec;
 use simulation::Counts;
 
-// The values at the start of `numbers`; what stands behind them stays.
+// The values at the start of `numbers`; what stands after them stays.
 pub fn put_all(numbers: &mut [usize], values: &[usize])
     requires { ⌜ length (now values) ≤ length (now numbers) ⌝ }
     ensures { λ _. ⌜ now (numbers .exit) ≡ now (values .entry) ++ drop (length (now (values .entry))) (now (numbers .entry)) ⌝ }

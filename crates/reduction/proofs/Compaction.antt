@@ -1,4 +1,4 @@
--- Rows moved to the front: the numbers of the kept rows, one row behind the other, stand over the old ones; they hold the kept rules.
+-- Rows moved to the front: the numbers of the kept rows, one row after the other, stand over the old ones; they hold the kept rules.
 use Prim.Native.Nat.{ℕ, suc, _+_, _*_, _≤_, _<_}
 use native.Mathlib.Omega.{arith}
 use mathlib.Core.Path.{_≡_, refl, _∙_}
@@ -17,7 +17,7 @@ use Rattle.simulation.proofs.Ranges.{member-from}
 use Rattle.simulation.proofs.Parts.{length-part}
 use Rattle.reduction.proofs.Overwriting.{over-from, over-rest, rowAt, row-decides}
 
--- Some rows, one behind the other.
+-- Some rows, one after the other.
 unfoldable pub gathered : List ℕ → List ℕ → List ℕ
 gathered rows [] = []
 gathered rows (i ∷ is) = rowAt rows i ++ gathered rows is

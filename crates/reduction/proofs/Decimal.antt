@@ -57,7 +57,7 @@ decimal-numeral = decimal-induction Numeral one more
       leading = λ rest e. let zero : d ∷ ds ≡ 48 ∷ ds = cc in absurd (omega (arith, n .leading ds zero .0));
     }
 
--- The last digits of a number, as a loop writes them from behind; all of them are its decimal.
+-- The last digits of a number, as a loop writes them from the end; all of them are its decimal.
 unfoldable pub lastDigits : ℕ → ℕ → List ℕ
 lastDigits zero v = []
 lastDigits (suc n) v = lastDigits n (v / 10) ++ ((48 + v % 10) ∷ [])

@@ -69,7 +69,7 @@ unfolding from
 from-next i = ap (from 0) (sym (add-one i)) ∙ from-append 0 i 1 ∙ ap (λ (j : ℕ). from 0 i ++ (j ∷ [])) (zero-add i)
 
 module _ (f : ℕ → Rule) where
-  -- Rule i is new, and so is a rule that stands behind i.
+  -- Rule i is new, and so is a rule that stands after i.
   isNew : ℕ → Bool
   isNew i = not (any (λ (j : ℕ). sameRule (f j) (f i)) (from 0 i))
 

@@ -1,4 +1,4 @@
--- Text over a buffer: digits from the last to the first; a word, numbers and byte 10 one behind the other, and lines likewise.
+-- Text over a buffer: digits from the last to the first; a word, numbers and byte 10 one after the other, and lines likewise.
 use Prim.Native.Nat.{ℕ, zero, suc, _+_, _-_, _/_, _%_, _≤_, _<_}
 use native.Mathlib.Nat.{add-suc, add-zero, zero-add}
 use native.Mathlib.Omega.{arith}
@@ -21,7 +21,7 @@ over-front out at d ds h =
     let next : suc at + length ds ≡ at + suc (length ds) = omega arith in
     rw (take-suc out at 0 h, next) (simp append-assoc (set-at (take at out) _ _ d at place))
 
--- Digits from behind: those from place j on are written, and before them go the last j of what is left.
+-- Digits from the end: those from place j on are written, and before them go the last j of what is left.
 pub record Digits (out₀ : List ℕ) (at v : ℕ) (out : List ℕ) (left j : ℕ) : Type 0 where
   pub written : List ℕ
   pub split : decimal v ≡ lastDigits j left ++ written

@@ -26,7 +26,7 @@ use Rattle.reduction.specs.Steps.{sameStates, sameRule, dominatedBy, dom
 use Rattle.reduction.specs.Inner.{isFirst}
 use Rattle.reduction.proofs.Members.{rising-rest, rising-above, rising-keep, same-rule-out, same-rule-refl}
 
--- The target of a row and its children behind it.
+-- The target of a row and its children after it.
 row-states : (rows : List ℕ) (i rank : ℕ) → 10 * i + 1 < length rows
     → take (1 + rank) (drop (10 * i + 1) rows) ≡ getD rows (10 * i + 1) 0 ∷ take rank (drop (10 * i + 2) rows)
 row-states rows i rank h =

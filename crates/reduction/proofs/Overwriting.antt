@@ -1,4 +1,4 @@
--- Numbers written over others: what stands before and behind them stays. A rule depends only on the ten numbers of its row.
+-- Numbers written over others: what stands before and after them stays. A rule depends only on the ten numbers of its row.
 use Prim.Native.Nat.{ℕ, zero, suc, _+_, _-_, _*_, _≤_, _<_}
 use native.Mathlib.Nat.{add-zero}
 use native.Mathlib.Omega.{arith}

@@ -27,7 +27,7 @@ use Rattle.reduction.specs.declared.reducing.Reduction.{Reduction}
 use Rattle.reduction.specs.declared.reducing.Reduced.the-variants as answers
 use Rattle.reduction.proofs.Members.{same-bool}
 
--- What the call answers for an automaton that fits.
+-- What the call returns for an automaton that fits.
 unfoldable pub answerFor : Automaton → Reduction
 answerFor A = record {
   length = length (encode (reduce A));

@@ -1,4 +1,4 @@
--- What only the contracts of inner functions cite; the meaning of the public calls needs none of it.
+-- What the contracts of inner functions cite; neither `reduce` nor `report` cites any of it.
 use Prim.Native.Nat.{ℕ, _≤_, _<_}
 use mathlib.Core.Path.{_≡_}
 use mathlib.Core.List.{List, [], _∷_, _++_, List·Memᴰ}

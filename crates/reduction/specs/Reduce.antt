@@ -1,4 +1,4 @@
--- Reduction: the six steps one after the other, and what the call answers.
+-- Reduction: the six steps one after the other, and what the call returns.
 use Prim.Native.Nat.{ℕ}
 use mathlib.Core.List.{List}
 use lib.ListN.{length}
@@ -43,7 +43,7 @@ reduction table out = do
     rounds = reductionRounds A;
   })
 
--- The output afterwards: the reduced table, with the old bytes behind it; a refusal, 13 too, leaves it.
+-- The output afterwards: the reduced table, with the old bytes after it; a refusal, 13 too, leaves it.
 unfoldable pub reductionAfter : Read Automaton → List ℕ → List ℕ
 reductionAfter (found A) out = writtenOver (encode (reduce A)) out
 reductionAfter (refused cause) out = out

@@ -34,7 +34,7 @@ pub record Numeral (v : ℕ) (ds : List ℕ) : Type 0 where
   pub some : 1 ≤ length ds
   pub leading : (rest : List ℕ) → ds ≡ 48 ∷ rest → (v ≡ 0) × (rest ≡ [])
 
--- Each number behind one space; and a line, which byte 10 ends.
+-- Each number after one space; and a line, which byte 10 ends.
 unfoldable pub numbersIn : List ℕ → List ℕ
 numbersIn [] = []
 numbersIn (v ∷ vs) = (32 ∷ decimal v) ++ numbersIn vs

@@ -59,7 +59,8 @@ roundsIn S = rounds (S .rules) (S .states)
 unfoldable pub equivalent : Relation → ℕ → ℕ → Bool
 equivalent R q r = related R q r && related R r q
 
--- The first state that passes a test. A state that is left is equivalent to itself, so a representative is always found.
+-- The first state that passes a test. A state that is left is equivalent to itself (≤ is reflexive on the states that are left), so a
+-- representative is always found and the 0 of the empty list is none (theorem `representative-equivalent`).
 unfoldable pub firstOf : (ℕ → Bool) → List ℕ → ℕ
 firstOf test [] = 0
 firstOf test (q ∷ qs) = cond (test q) q (firstOf test qs)
@@ -121,7 +122,8 @@ restricted S = record {
 }
 
 -- Step 6: number the kept blocks in order: n and k new, m and ranks old, rules in their old order. A kept block's number is where it
--- stands among the kept ones.
+-- stands among the kept ones; the rules and the final states that are left name kept blocks only, so the end of the list is never reached
+-- (theorems `finals-kept` and `children-kept`).
 unfoldable pub position : List ℕ → ℕ → ℕ
 position [] q = 0
 position (p ∷ ps) q = cond (eqb p q) 0 (suc (position ps q))

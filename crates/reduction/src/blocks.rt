@@ -48,7 +48,7 @@ pub fn name_blocks(words: &[u64; 1024], n: usize, names: &mut [u16])
     }
 }
 
-// Numbers the states below n that are in a set, in order; answers how many there are.
+// Numbers the states below n that are in a set, in order; returns how many there are.
 pub fn number_states(set: StateSet, n: usize, names: &mut [u16]) -> usize
     requires { ⌜ (n ≤ 256) × (n ≤ length (now names)) ⌝ }
     ensures { λ r. ⌜ r ≡ length (statesIn n (set .words)) ⌝ }

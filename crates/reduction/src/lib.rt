@@ -7,6 +7,7 @@ mod reducing;
 mod rows;
 mod steps;
 
+// Calls for everybody, with their answers: they ask nothing of their caller. Nothing is exported for crates above alone.
 pub use lines::report;
 pub use reducing::Reduced;
 pub use reducing::Reduction;

@@ -32,7 +32,7 @@ fn digits(v: usize) -> usize
     }
 }
 
-// The digits of v from `at` on; answers where they end.
+// The digits of v from `at` on; returns where they end.
 fn put_decimal(out: &mut [u8], at: usize, v: usize) -> usize
     requires { ⌜ v < 100000 ⌝ }
     requires { ⌜ at + length (spec.decimal v) ≤ length (now out) ⌝ }
@@ -50,7 +50,7 @@ fn put_decimal(out: &mut [u8], at: usize, v: usize) -> usize
     at + n
 }
 
-// A word from `at` on; answers where it ends.
+// A word from `at` on; returns where it ends.
 fn put_word(out: &mut [u8], at: usize, word: &[u8]) -> usize
     requires { ⌜ at + length (now word) ≤ length (now out) ⌝ }
     ensures { λ r. ⌜ r ≡ at + length (now (word .entry)) ⌝ }
@@ -60,7 +60,7 @@ fn put_word(out: &mut [u8], at: usize, word: &[u8]) -> usize
     at + word.len()
 }
 
-// A space and the digits of v from `at` on; answers where they end.
+// A space and the digits of v from `at` on; returns where they end.
 fn put_number(out: &mut [u8], at: usize, v: usize) -> usize
     requires { ⌜ v < 100000 ⌝ }
     requires { ⌜ at + 6 ≤ length (now out) ⌝ }
@@ -71,7 +71,7 @@ fn put_number(out: &mut [u8], at: usize, v: usize) -> usize
     put_decimal(out, at + 1, v)
 }
 
-// A line of a word and a number from `at` on; answers where it ends.
+// A line of a word and a number from `at` on; returns where it ends.
 fn put_single(out: &mut [u8], at: usize, word: &[u8], a: usize) -> usize
     requires { ⌜ (a < 100000) × (length (now word) ≤ 7) ⌝ }
     requires { ⌜ at + 14 ≤ length (now out) ⌝ }
@@ -84,7 +84,7 @@ fn put_single(out: &mut [u8], at: usize, word: &[u8], a: usize) -> usize
     end + 1
 }
 
-// A line of a word and two numbers from `at` on; answers where it ends.
+// A line of a word and two numbers from `at` on; returns where it ends.
 fn put_pair(out: &mut [u8], at: usize, word: &[u8], a: usize, b: usize) -> usize
     requires { ⌜ (a < 100000) × ((b < 100000) × (length (now word) ≤ 7)) ⌝ }
     requires { ⌜ at + 20 ≤ length (now out) ⌝ }
@@ -111,7 +111,7 @@ fn put_reduced(out: &mut [u8], old: Size, new: Size, rounds: usize) -> usize
     put_single(out, rules, b"rounds", rounds)
 }
 
-// Writes the report on the first 27,417 bytes of `input` to the start of `out`; answers its length.
+// Writes the report on the first 27,417 bytes of `input` to the start of `out`; returns its length.
 pub fn report(input: &[u8], out: &mut [u8; 64]) -> usize
     ensures { λ r. ⌜ r ≡ length (spec.report (now (input .entry))) ⌝ }
     ensures { λ r. ⌜ now (out .exit) ≡ spec.report (now (input .entry)) ++ drop (length (spec.report (now (input .entry)))) (now (out .entry)) ⌝ }

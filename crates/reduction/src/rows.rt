@@ -24,7 +24,7 @@ fn move_row(rows: &mut [u16], i: usize, j: usize)
     }
 }
 
-// Moves the marked ones of the first k rows to the front, in order; answers how many there are.
+// Moves the marked ones of the first k rows to the front, in order; returns how many there are.
 pub fn compact(rows: &mut [u16], k: usize, marks: &[bool]) -> usize
     requires { ⌜ (10 * k ≤ length (now rows)) × (k ≤ length (now marks)) ⌝ }
     ensures { λ r. ⌜ r ≡ length (keep (marked (now (marks .entry))) (from 0 k)) ⌝ }

@@ -57,7 +57,7 @@ pub struct Grouped {
     pub rules: usize,
 }
 
-// Step 3: groups equivalent states under their representatives; of equal rules the first stays. Answers the final
+// Step 3: groups equivalent states under their representatives; of equal rules the first stays. Returns the final
 // representatives and how many rules are left.
 fn group(
     words: &[u64; 1024],
@@ -89,7 +89,7 @@ fn group(
     }
 }
 
-// Step 4: drops together all dominated rules; answers how many are left.
+// Step 4: drops together all dominated rules; returns how many are left.
 fn prune(words: &[u64; 1024], k: usize, ranks: &[u8; 256], rows: &mut [u16; 10240]) -> usize
     requires { ⌜ k ≤ 1024 ⌝ }
     requires { ⌜ ((i : ℕ) → i < k → RowRanged (now ranks) (now rows) i) ⌝ }

@@ -1,6 +1,7 @@
-// Reads cases from standard input, each a table and the room for its reduced one, and writes what reducing answers, the length and a
-// checksum of the whole output; then the same of the reduced table, reduced again with room for just its own bytes.
-// A case: its name, behind a byte of length; the table, behind four bytes of length; the room (four bytes).
+// Reads cases from standard input, each a table and the room for its reduced one, and writes what reducing returns, the length and a
+// checksum of the whole output; then the same of the reduced table, reduced again with room for just its own bytes; then the report on
+// the table.
+// A case: its name, after a byte of length; the table, after four bytes of length; the room (four bytes).
 ghost use mathlib.Core.Path.{_≡_};
 ghost use lib.ListN.{length};
 use automaton::number;
@@ -34,13 +35,14 @@ fn one() -> bool {
     with_room(&table[..n], cases::number(4))
 }
 
-// Reduces a table with some room, and the reduced table again: false where the room is more than any case has.
+// Reduces a table with some room, and the reduced table again, and reports on the table: false where the room is more than any case has.
 fn with_room(t: &[u8], room: usize) -> bool {
     if room > 27500 {
         return false;
     }
     let mut space = filled();
     twice(t, &mut space[..room]);
+    write_report(t);
     true
 }
 
@@ -97,6 +99,14 @@ fn write_lines(r: Reduction) {
     write_word(b"\nlength");
     write_number(r.length);
     end_line();
+}
+
+// The report on a table, after a line of its own.
+fn write_report(t: &[u8]) {
+    write_word(b"report\n");
+    let mut lines = [0u8; 64];
+    let end = reduction::report(t, &mut lines);
+    write_word(&lines[..end]);
 }
 
 fn filled() -> [u8; 27500]

@@ -1,5 +1,5 @@
 // Reads cases from standard input, each a table, the room for its relation and pairs of states, and writes what the two queries find.
-// A case: its name, behind a byte of length; the table, behind four bytes of length; the room (four bytes); the number of pairs
+// A case: its name, after a byte of length; the table, after four bytes of length; the room (four bytes); the number of pairs
 // (two bytes), and two bytes for each state of each pair.
 ghost use mathlib.Core.Path.{_≡_};
 ghost use lib.ListN.{length};

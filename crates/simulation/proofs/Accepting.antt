@@ -1,7 +1,8 @@
--- The answer for a tree, from the stack that its nodes leave.
+-- The answer for a tree, from the stack that its nodes leave; and what the answer of a tree that is read says.
 use Prim.Native.Nat.{ℕ, _/_, _≤_, _<_}
 use native.Mathlib.Omega.{arith}
 use mathlib.Core.Path.{_≡_, refl, sym, ap, _∙_}
+use mathlib.Core.Logic.{_⊎_, inl, inr, _↔_}
 use mathlib.Core.List.{List, [], _∷_}
 use mathlib.Core.Bool.{Bool, true, false, _&&_}
 use lib.ListN.{length}
@@ -25,7 +26,10 @@ use Rattle.automaton.proofs.Inversion.{refused≢found}
 use Rattle.automaton.proofs.Meaning.{Held}
 use Rattle.simulation.specs.Tree.{Tree, any, accepts}
 use Rattle.simulation.specs.Postfix.{pushAll, single, isTreeRecord, judgeTree}
-use Rattle.simulation.specs.Check.{acceptance}
+use Rattle.simulation.specs.Check.{acceptanceOf, acceptance}
+use Rattle.simulation.specs.declared.checking.Answer.{Answer}
+use Rattle.simulation.specs.declared.checking.Answer.the-variants.{Accepted, Rejected}
+use Rattle.simulation.specs.declared.checking.Answer.the-variants as answers
 use Rattle.simulation.specs.Inner.{Represents, heightOf, Stacked, stackAcceptance, nodesAcceptance, treeAcceptance}
 use Rattle.simulation.specs.declared.evaluation.Height.{Height}
 use Rattle.simulation.specs.declared.evaluation.Height.the-variants.{At, Refused}
@@ -116,3 +120,16 @@ module _ {table : List ℕ} {size : Size} {finals ranks rows : List ℕ} (h : He
   pub held-acceptance : (tree : List ℕ) → treeAcceptance (automatonIn size finals ranks rows) tree ≡ acceptance table tree
   unfolding treeAcceptance acceptance _>>=_
   held-acceptance tree = rw (h .holds, h .judged)
+
+-- The answer of a tree that is read: accepted or rejected, as the automaton accepts it or not.
+pub acceptance-found : (table tree : List ℕ) (A : Automaton) (t : Tree) → judge table ≡ found A → judgeTree (A .ranks) tree ≡ found t
+    → acceptance table tree ≡ found (accepts A t)
+unfolding acceptance _>>=_
+acceptance-found table tree A t e f = rw (e, f)
+
+pub answer-found : (answer : Answer) {t : Bool} → acceptanceOf answer ≡ found t
+    → ((answer ≡ Accepted) ⊎ (answer ≡ Rejected)) × ((answer ≡ Accepted) ↔ (t ≡ true))
+unfolding acceptanceOf
+answer-found Accepted e = (inl refl, (λ h. cc, λ h. refl))
+answer-found Rejected e = (inr refl, (λ h. cc, λ h. cc))
+answer-found (answers.Refused cause) e = absurd (refused≢found e)

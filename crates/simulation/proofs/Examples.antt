@@ -1,67 +1,72 @@
--- Document 01's examples B2 to B10 and B12, computed from the definitions, as one joint statement.
+-- The order of the causes of trees and queries: each example has two causes at once, and the one that document 01 puts first is returned.
 use Prim.Native.Nat.{ℕ}
 use mathlib.Core.Path.{_≡_, refl}
-use mathlib.Core.List.{[], _∷_}
-use mathlib.Core.Bool.{true, false}
-use lib.ListN.{length}
-use Rattle.automaton.specs.Lists.{from, keep}
-use Rattle.automaton.specs.Automaton.{Automaton}
+use mathlib.Core.List.{List, [], _∷_, _++_}
+use lib.ListN.{replicate}
+use Rattle.automaton.specs.Lists.{all, rising, risingFrom}
 use Rattle.automaton.specs.Bytes.{number2, number4, numbers, bytes2, bytes4, fields}
 use Rattle.automaton.specs.Record.{endOf, isWhole, opened, bodyIn, bodyOf, encodeRecord}
 use Rattle.automaton.specs.Read.{refused, _>>=_, _>>_, check}
-use Rattle.automaton.proofs.Examples.{rule, T}
-use Rattle.simulation.specs.Tree.{Tree, node, nil, cons, any, belongs, accepts}
+use Rattle.automaton.specs.Table.{dueIn, due, judgeRules, judgeFinals, judgeRanks, judge}
 use Rattle.simulation.specs.Postfix.{treesIn, push, pushAll, single, isTreeRecord, judgeTree}
-use Rattle.simulation.specs.Simulation.{related, paired, matchedBy, matched, every, survives, refine}
-use Rattle.simulation.specs.Simulation.{allPairs, relationAt, settle, rounds, relation}
-use Rattle.simulation.specs.Query.{simulationOf, roundsOf, Unmatched}
+use Rattle.simulation.specs.Check.{acceptance}
+use Rattle.simulation.specs.Query.{relationQuery, pairQuery}
 
-abbrev leaf : ℕ → Tree
-leaf f = node f nil
+-- Symbols a, b and f of ranks 0, 0 and 2; symbol 3 is unknown.
+abbrev pub ranks : List ℕ
+ranks = 0 ∷ 0 ∷ 2 ∷ []
 
-abbrev pair : Tree → Tree → Tree
-pair s t = node 2 (cons s (cons t nil))
+-- The record of a tree with these symbols in postfix order.
+abbrev pub tree : List ℕ → List ℕ
+tree symbols = encodeRecord 16 (fields symbols)
 
--- c → 0, d → 1, f(0,1) → 2, f(0,0) → 3, f(1,1) → 3
-abbrev C : Automaton
-C = record {
-  states = 4;
-  ranks = 0 ∷ 0 ∷ 2 ∷ [];
-  finals = [];
-  rules = rule 0 0 [] ∷ rule 1 1 [] ∷ rule 2 2 (0 ∷ 1 ∷ []) ∷ rule 2 3 (0 ∷ 0 ∷ []) ∷ rule 2 3 (1 ∷ 1 ∷ []) ∷ [];
-}
+-- A table of one state, without symbols and rules, and one byte after it.
+abbrev pub byteAfter : List ℕ
+byteAfter =
+    8 ∷ 0 ∷ 0 ∷ 0 ∷ 1 ∷ 0 ∷ 1 ∷ 0 ∷ 0 ∷ 0 ∷ 0 ∷ 0
+    ∷ 2 ∷ 0 ∷ 0 ∷ 0 ∷ 2 ∷ 0
+    ∷ 2 ∷ 0 ∷ 0 ∷ 0 ∷ 3 ∷ 0
+    ∷ 0
+    ∷ []
 
-pub record Bench : Type 0 where
-  B2 : (length (simulationOf T) ≡ 9) × (roundsOf T ≡ 2)
-  B3 : (related (simulationOf T) 2 0 ≡ false) × Unmatched T 2 0 3
-  B4 : related (simulationOf T) 0 2 ≡ true
-  B5 : (related (simulationOf T) 3 4 ≡ false) × Unmatched T 3 4 4 × Unmatched T 3 4 5 × Unmatched T 3 4 6
-  B6 : accepts T (pair (leaf 1) (leaf 0)) ≡ true
-  B7 : accepts T (leaf 0) ≡ false
-  B8 : accepts T (pair (pair (leaf 0) (leaf 0)) (leaf 0)) ≡ false
-  B9 : judgeTree (T .ranks) (encodeRecord 16 (fields (2 ∷ []))) ≡ refused 10
-  B10 : (judgeTree (T .ranks) (encodeRecord 16 []) ≡ refused 10)
-      × (judgeTree (T .ranks) (encodeRecord 16 (fields (3 ∷ []))) ≡ refused 9)
-  B12 : related (simulationOf C) 2 3 ≡ false
+pub record Order : Type 0 where
+  -- 8 before 9: an odd body, and its symbol is unknown.
+  pub odd-body-before-symbol : judgeTree ranks (5 ∷ 0 ∷ 0 ∷ 0 ∷ 16 ∷ 0 ∷ 3 ∷ 0 ∷ 0 ∷ []) ≡ refused 8
+  -- 8 before 11: an odd body, and 16,385 nodes in it.
+  pub odd-body-before-node-limit : judgeTree ranks (encodeRecord 16 (replicate 32771 0)) ≡ refused 8
+  -- 11 before 9: 16,385 nodes, and the first symbol is unknown.
+  pub node-limit-before-symbol : judgeTree ranks (tree (3 ∷ replicate 16384 0)) ≡ refused 11
+  -- Node by node, 9 before 10: an unknown symbol, and after it an f without two trees before it.
+  pub symbol-before-later-rank : judgeTree ranks (tree (3 ∷ 2 ∷ [])) ≡ refused 9
+  -- 10 before 9: an f without two trees before it, and after it an unknown symbol.
+  pub rank-before-later-symbol : judgeTree ranks (tree (2 ∷ 3 ∷ [])) ≡ refused 10
+  -- 11 before 9: 1,025 trees wait, and after them stands an unknown symbol.
+  pub waiting-before-later-symbol : judgeTree ranks (tree (replicate 1025 0 ++ (3 ∷ []))) ≡ refused 11
+  -- 9 before 11: an unknown symbol, and with the leaf after it 1,025 trees wait.
+  pub symbol-before-later-waiting : judgeTree ranks (tree (replicate 1024 0 ++ (3 ∷ 0 ∷ []))) ≡ refused 9
+  -- 9 before the 10 at the end: the last symbol is unknown, and two trees stand there.
+  pub symbol-before-end : judgeTree ranks (tree (0 ∷ 0 ∷ 3 ∷ [])) ≡ refused 9
+  -- The table's 1 before the tree's 8: a byte after the table, and no record of a tree.
+  pub table-before-tree : acceptance byteAfter [] ≡ refused 1
+  -- The table's 1 before 12: a byte after the table, and state 1 where n is 1.
+  pub table-before-states : pairQuery byteAfter 0 1 ≡ refused 1
+  -- The table's 1 before 13: a byte after the table, and no room for a row.
+  pub table-before-output : relationQuery byteAfter [] ≡ refused 1
 
-pub bench : Bench
-unfolding simulationOf roundsOf relation relationAt rounds settle allPairs refine keep survives matched every matchedBy paired related any from
-    accepts belongs judgeTree isTreeRecord pushAll push single treesIn opened isWhole endOf bodyOf bodyIn number2 number4 numbers
-    encodeRecord bytes2 bytes4 fields check _>>=_ _>>_
-bench = record {
-  B2 = (refl, refl);
-  B3 = (refl, record { rule = rule 1 2 []; behind = _; number = refl; target = refl; unmatched = refl });
-  B4 = refl;
-  B5 = (
-    refl,
-    record { rule = rule 2 3 (0 ∷ 2 ∷ []); behind = _; number = refl; target = refl; unmatched = refl },
-    record { rule = rule 2 3 (1 ∷ 2 ∷ []); behind = _; number = refl; target = refl; unmatched = refl },
-    record { rule = rule 2 3 (2 ∷ 2 ∷ []); behind = _; number = refl; target = refl; unmatched = refl },
-  );
-  B6 = refl;
-  B7 = refl;
-  B8 = refl;
-  B9 = refl;
-  B10 = (refl, refl);
-  B12 = refl;
+pub order : Order
+unfolding judgeTree isTreeRecord pushAll push single treesIn acceptance pairQuery relationQuery
+    judge judgeRanks judgeFinals judgeRules due dueIn opened isWhole endOf bodyOf bodyIn number2 number4 numbers
+    encodeRecord bytes2 bytes4 fields all rising risingFrom check _>>=_ _>>_
+order = record {
+  odd-body-before-symbol = refl;
+  odd-body-before-node-limit = refl;
+  node-limit-before-symbol = refl;
+  symbol-before-later-rank = refl;
+  rank-before-later-symbol = refl;
+  waiting-before-later-symbol = refl;
+  symbol-before-later-waiting = refl;
+  symbol-before-end = refl;
+  table-before-tree = refl;
+  table-before-states = refl;
+  table-before-output = refl;
 }

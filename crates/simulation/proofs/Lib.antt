@@ -21,6 +21,7 @@ pub mod Groups
 pub mod Settling
 pub mod Touching
 pub mod Queries
+pub mod Comparing
 pub mod Causes
 pub mod Theorems
 pub mod Examples

@@ -1,15 +1,16 @@
--- A pair that is not in the relation has a rule without a match; and the number of pairs is counted row by row.
+-- A pair that is not in the relation has a rule without a match; no pair stands twice, and the number of pairs is counted row by row.
 use Prim.Native.Nat.{ℕ, zero, suc, _+_}
 use mathlib.Core.Path.{_≡_, refl, sym, ap, _∙_}
 use mathlib.Core.Logic.{_⊎_, inl, inr}
-use mathlib.Core.List.{List, [], _∷_, map, List·Memᴰ, Memᴰ·cast}
+use mathlib.Core.List.{List, [], _∷_, map, List·Memᴰ, Memᴰ·cast, Memᴰ·of-map}
 use mathlib.Core.Bool.{Bool, true, false, cond, _&&_}
 use lib.ListN.{length, length-append}
-use Rattle.automaton.specs.Lists.{keep}
+use Rattle.automaton.specs.Lists.{Distinct, bare, new, keep}
 use Rattle.automaton.specs.Automaton.{Rule}
 use Rattle.automaton.proofs.Keeping.{keep-append, keep-both, keep-agree, keep-all}
+use Rattle.automaton.proofs.Distinctness.{keep-distinct, distinct-map, distinct-append}
 use Rattle.simulation.specs.Simulation.{Simulates, Matched, related, survives, refine, allPairs, relationAt, rounds, relation}
-use Rattle.simulation.proofs.Refinement.{Within, member-related, refine-related, survives-matched}
+use Rattle.simulation.proofs.Refinement.{Within, member-related, member-pair, refine-related, survives-matched}
 use Rattle.simulation.proofs.Maximality.{matched-map, relation-simulates, relation-largest, relation-states}
 
 module _ (rules : List Rule) (states : List ℕ) where
@@ -59,6 +60,18 @@ all-length f [] rs = refl
 all-length f (q ∷ qs) rs =
     rw (keep-append f (map (λ (r : ℕ). (q, r)) rs) (allPairs qs rs), length-append, row-length f q rs, all-length f qs rs)
 
+-- All pairs, each once.
+pairs-distinct : {qs rs : List ℕ} → Distinct qs → Distinct rs → Distinct (allPairs qs rs)
+unfolding allPairs
+pairs-distinct bare e = bare
+pairs-distinct {rs = rs} (new {x = q} {xs = qs} other d) e =
+    distinct-append (distinct-map (λ (r : ℕ). (q, r)) (λ r s m n same. ap (λ (p : ℕ × ℕ). p .1) same) e) (pairs-distinct d e) apart
+  where
+    apart : (p : ℕ × ℕ) → List·Memᴰ p (map (λ (r : ℕ). (q, r)) rs) → List·Memᴰ p (allPairs qs rs) → ⊥
+    apart p m n =
+        let first = Memᴰ·of-map (λ (r : ℕ). (q, r)) rs m in
+        other (Memᴰ·cast (ap (λ (t : ℕ × ℕ). t .0) (first .2)) (member-pair qs rs n .0))
+
 module _ (rules : List Rule) (states : List ℕ) where
   kept-round : (j : ℕ) → relationAt rules states j
       ≡ keep (λ (p : ℕ × ℕ). related (relationAt rules states j) (p .0) (p .1)) (allPairs states states)
@@ -77,3 +90,7 @@ module _ (rules : List Rule) (states : List ℕ) where
   relation-length =
       ap length (kept-round (rounds rules states))
       ∙ all-length (λ (p : ℕ × ℕ). related (relationAt rules states (rounds rules states)) (p .0) (p .1)) states states
+
+  pub relation-distinct : Distinct states → Distinct (relation rules states)
+  unfolding relation
+  relation-distinct d = rw (kept-round (rounds rules states)) (keep-distinct _ (pairs-distinct d d))

@@ -1,11 +1,12 @@
--- A tree over the symbols, in postfix order, is read back as that tree, unless it breaks a limit; and what is read spells the bytes.
-use Prim.Native.Nat.{ℕ, zero, suc, _+_, _*_, _%_, _≤_, _<_}
+-- A tree over the symbols, in postfix order, is read back as that tree exactly if it keeps both limits; and what is read spells the bytes.
+use Prim.Native.Nat.{ℕ, zero, suc, _+_, _*_, _%_, _≤_, _<_, max}
+use native.Mathlib.Nat.{zero-add}
 use native.Mathlib.Omega.{arith}
 use native.Mathlib.Decide.{decLe}
 use mathlib.Core.Path.{_≡_, refl, sym, ap, ap₂, _∙_}
-use mathlib.Core.Logic.{_⊎_, inl, inr}
+use mathlib.Core.Logic.{_↔_}
 use mathlib.Core.List.{List, [], _∷_, _++_, reverse, reverseAux, reverseAux-eq, reverse-reverse, reverse-cons, append-assoc, append-nil}
-use mathlib.Core.Bool.{true, false, false≢true}
+use mathlib.Core.Bool.{true, false≢true}
 use lib.ListN.{length, take, drop, getD, length-append, length-reverse, take-append-drop}
 use lib.Seq.{take-at, drop-at, drop-length, length-take-le}
 use lib.Dec.{leb, ltb, eqb}
@@ -21,7 +22,8 @@ use Rattle.automaton.proofs.Records.{record-opens, record-body, length-record, 
 use Rattle.automaton.proofs.Inversion.{refused≢found, checked, bind-found}
 use Rattle.simulation.proofs.Search.{and-true-out}
 use Rattle.simulation.specs.Tree.{Tree, Trees, node, nil, cons, width, Over, AllOver}
-use Rattle.simulation.specs.Postfix.{treesIn, push, pushAll, single, isTreeRecord, judgeTree, postfix, postfixes, encodeTree}
+use Rattle.simulation.specs.Postfix.{treesIn, push, pushAll, single, isTreeRecord, judgeTree}
+use Rattle.simulation.specs.Postfix.{postfix, postfixes, peak, peakAbove, encodeTree}
 
 unfoldable pub treeList : Trees → List Tree
 treeList nil = []
@@ -37,9 +39,28 @@ unfolding treeList treesIn
 treesIn-treeList nil = refl
 treesIn-treeList (cons t ts) = ap (cons t) (treesIn-treeList ts)
 
--- Reading comes to the same, or ends with the limit.
-abbrev pub Same : {A : Type 0} → Read A → Read A → Type 0
-Same x y = (x ≡ y) ⊎ (x ≡ refused 11)
+-- x reads trees of which n wait at most: within the limit it comes to y, above the limit it is refused.
+pub record Limited {A : Type 0} (n : ℕ) (x y : Read A) : Type 0 where
+  pub fits : n ≤ 1024 → x ≡ y
+  pub breaks : 1024 < n → x ≡ refused 11
+
+-- One reading after the other: at most the larger number waits.
+limited-trans : {A : Type 0} {x y z : Read A} {m n k : ℕ} → Limited m x y → (m ≤ 1024 → Limited n y z) → k ≡ max m n → Limited k x z
+limited-trans {m = m} a b e = record {
+  fits = λ h. a .fits (omega arith) ∙ b (omega arith) .fits (omega arith);
+  breaks = λ h. elim (decLe m 1024) [
+    | yes l ↦ a .fits l ∙ b l .breaks (omega arith)
+    | no g ↦ a .breaks (omega arith)
+  ];
+}
+
+limited-then : {A B : Type 0} {x : Read A} {y : A} {n : ℕ} (f : A → Read B) → Limited n x (found y) → Limited n (x >>= f) (f y)
+unfolding _>>=_
+limited-then f a = record { fits = λ h. rw (a .fits h); breaks = λ h. rw (a .breaks h) }
+
+peak-positive : (t : Tree) → 1 ≤ peak t
+unfolding peak
+peak-positive (node f ts) = omega arith
 
 module _ (ranks : List ℕ) where
   -- A node takes the trees of its children off the stack.
@@ -65,48 +86,43 @@ module _ (ranks : List ℕ) where
     children : treesIn (reverse (reverse (treeList ts))) ≡ ts
     children = ap treesIn (reverse-reverse (treeList ts)) ∙ treesIn-treeList ts
 
-    push-node : f < length ranks → Same (push ranks on-stack f) (found (node f ts ∷ stack))
+    push-node : f < length ranks → Limited (length stack + 1) (push ranks on-stack f) (found (node f ts ∷ stack))
     unfolding push check _>>_
-    push-node h =
-        elim (decLe (1 + length stack) 1024) [
-          | yes l ↦
-              inl
-              (rw (lt-ltb f (length ranks) h, le-leb (getD ranks f 0) (length on-stack) enough, dropped, taken, le-leb (1 + length stack) 1024 l, children))
-          | no g ↦
-              inr
-              (rw (lt-ltb f (length ranks) h, le-leb (getD ranks f 0) (length on-stack) enough, dropped, lt-leb (1 + length stack) 1024 (omega arith)))
-        ]
+    push-node h = record {
+      fits = λ l. rw (symbol, rank, dropped, taken, le-leb (1 + length stack) 1024 (omega arith), children);
+      breaks = λ g. rw (symbol, rank, dropped, lt-leb (1 + length stack) 1024 (omega arith));
+    }
+      where
+        symbol : ltb f (length ranks) ≡ true
+        symbol = lt-ltb f (length ranks) h
 
-  same-then : {A B : Type 0} (x : Read A) (y : A) (f : A → Read B) → Same x (found y) → Same (x >>= f) (f y)
-  unfolding _>>=_
-  same-then x y f (inl e) = inl (rw e)
-  same-then x y f (inr e) = inr (rw e)
-
-  same-trans : {A : Type 0} {x y z : Read A} → Same x y → Same y z → Same x z
-  same-trans (inl e) (inl g) = inl (e ∙ g)
-  same-trans (inl e) (inr g) = inr (e ∙ g)
-  same-trans (inr e) g = inr e
+        rank : leb (getD ranks f 0) (length on-stack) ≡ true
+        rank = le-leb (getD ranks f 0) (length on-stack) enough
 
   mutual
-    unfolding postfix pushAll Over treeList on-stack
+    unfolding postfix pushAll Over treeList on-stack peak
 
-    pub read-back : (t : Tree) (stack : List Tree) (fs : List ℕ) → Over ranks t
-        → Same (pushAll ranks stack (postfix t ++ fs)) (pushAll ranks (t ∷ stack) fs)
-    read-back (node f ts) stack fs o =
-        same-trans (rw append-assoc (read-all ts stack (f ∷ fs) (o .2)))
-        (same-then (push ranks (reverseAux (treeList ts) stack) f) (node f ts ∷ stack) (λ (next : List Tree). pushAll ranks next fs)
-        (push-node f ts stack (o .1) (o .0)))
+    pub read-back : (t : Tree) (stack : List Tree) (fs : List ℕ) → Over ranks t → length stack ≤ 1024
+        → Limited (length stack + peak t) (pushAll ranks stack (postfix t ++ fs)) (pushAll ranks (t ∷ stack) fs)
+    read-back (node f ts) stack fs o h =
+        rw append-assoc
+        (limited-trans (read-all ts stack (f ∷ fs) 0 (length stack) (omega arith) (o .2) h)
+        (λ l. limited-then (λ (next : List Tree). pushAll ranks next fs) (push-node f ts stack (o .1) (o .0))) (omega arith))
 
-    read-all : (ts : Trees) (stack : List Tree) (fs : List ℕ) → AllOver ranks ts
-        → Same (pushAll ranks stack (postfixes ts ++ fs)) (pushAll ranks (reverseAux (treeList ts) stack) fs)
-    read-all nil stack fs o = inl refl
-    read-all (cons t ts) stack fs o =
-        same-trans (rw append-assoc (read-back t stack (postfixes ts ++ fs) (o .0))) (read-all ts (t ∷ stack) fs (o .1))
+    -- The i trees on top of the stack are the children of the same node that stand before these.
+    read-all : (ts : Trees) (stack : List Tree) (fs : List ℕ) (i base : ℕ) → length stack ≡ base + i → AllOver ranks ts
+        → length stack ≤ 1024
+        → Limited (base + peakAbove i ts) (pushAll ranks stack (postfixes ts ++ fs)) (pushAll ranks (reverseAux (treeList ts) stack) fs)
+    read-all nil stack fs i base e o h = record { fits = λ l. refl; breaks = λ g. absurd (omega arith) }
+    read-all (cons t ts) stack fs i base e o h =
+        rw append-assoc
+        (limited-trans (read-back t stack (postfixes ts ++ fs) (o .0) h)
+        (λ l. read-all ts (t ∷ stack) fs (suc i) base (omega arith) (o .1) (omega (arith, peak-positive t))) (omega arith))
 
-  -- A tree over the symbols is read back as that tree, or breaks a limit.
-  pub tree-read : (t : Tree) → Over ranks t → Same (pushAll ranks [] (postfix t)) (found (t ∷ []))
+  -- A tree over the symbols is read back as that tree, unless too many trees wait.
+  pub tree-read : (t : Tree) → Over ranks t → Limited (peak t) (pushAll ranks [] (postfix t)) (found (t ∷ []))
   unfolding pushAll
-  tree-read t o = rw append-nil at (read-back t [] [] o)
+  tree-read t o = rw (append-nil, zero-add) at (read-back t [] [] o (omega arith))
 
 -- The symbols that a stack of trees spells, from its bottom up.
 unfoldable spelled : List Tree → List ℕ
@@ -266,24 +282,54 @@ mutual
   all-symbols-below ranks nil o = none
   all-symbols-below ranks (cons t ts) o = all-append (symbols-below ranks t (o .0)) (all-symbols-below ranks ts (o .1))
 
--- A tree over the symbols that is not too large, written, is read back as that tree, or too many trees would wait.
-pub judge-tree-encoded : (ranks : List ℕ) (t : Tree) → length ranks ≤ 256 → length (postfix t) ≤ 16384 → Over ranks t
-    → Same (judgeTree ranks (encodeTree t)) (found t)
-unfolding judgeTree encodeTree isTreeRecord check _>>_ single
-judge-tree-encoded ranks t m n o =
-    let body = fields (postfix t) in
-    let b = encodeRecord 16 body in
-    let l : length body ≡ 2 * length (postfix t) = length-fields (postfix t) in
-    let opens : opened b ≡ whole 16 (6 + length body) =
-    rw append-nil at (record-opens 16 body [] (omega arith) (omega arith)) in
-    let is-body : bodyOf b ≡ body = rw append-nil at (record-body 16 body [] (omega arith) (omega arith)) in
-    let symbols : numbers body ≡ postfix t = numbers-fields (all-map (λ f h. omega arith) (symbols-below ranks t o)) in
-    rw (
-      opens,
-      is-body,
-      symbols,
-      eq-eqb (6 + length body) (length b) (sym (length-record 16 body)),
-      eq-eqb (length body % 2) 0 (omega arith),
-      le-leb (length (postfix t)) 16384 n,
-    )
-    (same-then ranks (pushAll ranks [] (postfix t)) (t ∷ []) single (tree-read ranks t o))
+-- A tree over the symbols, written: its nodes are counted, and then it is read.
+module _ (ranks : List ℕ) (t : Tree) (few : length ranks ≤ 256) (o : Over ranks t) where
+  judge-written : 2 * length (postfix t) + 2 < 4294967296
+      → judgeTree ranks (encodeTree t) ≡ (check (leb (length (postfix t)) 16384) 11 >> (pushAll ranks [] (postfix t) >>= single))
+  unfolding judgeTree encodeTree isTreeRecord check _>>_
+  judge-written n =
+      let body = fields (postfix t) in
+      let b = encodeRecord 16 body in
+      let l : length body ≡ 2 * length (postfix t) = length-fields (postfix t) in
+      let opens : opened b ≡ whole 16 (6 + length body) =
+      rw append-nil at (record-opens 16 body [] (omega arith) (omega arith)) in
+      let is-body : bodyOf b ≡ body = rw append-nil at (record-body 16 body [] (omega arith) (omega arith)) in
+      let symbols : numbers body ≡ postfix t = numbers-fields (all-map (λ f h. omega arith) (symbols-below ranks t o)) in
+      rw (
+        opens,
+        is-body,
+        symbols,
+        eq-eqb (6 + length body) (length b) (sym (length-record 16 body)),
+        eq-eqb (length body % 2) 0 (omega arith),
+      )
+
+  nodes-few : length (postfix t) ≤ 16384 → Limited (peak t) (judgeTree ranks (encodeTree t)) (found t)
+  unfolding check _>>_ single
+  nodes-few n =
+      rw (judge-written (omega arith), le-leb (length (postfix t)) 16384 n) (limited-then single (tree-read ranks t o))
+
+  nodes-many : 2 * length (postfix t) + 2 < 4294967296 → 16384 < length (postfix t) → judgeTree ranks (encodeTree t) ≡ refused 11
+  unfolding check _>>_
+  nodes-many l n = rw (judge-written l, lt-leb (length (postfix t)) 16384 n)
+
+  -- It is read back exactly if it keeps both limits; one that breaks a limit, and can be written, is refused.
+  pub written-read : (judgeTree ranks (encodeTree t) ≡ found t) ↔ ((length (postfix t) ≤ 16384) × (peak t ≤ 1024))
+  written-read = (
+    λ e.
+        let f = tree-found ranks (encodeTree t) t e in
+        let n : length (postfix t) ≤ 16384 = rw (f .spells) (f .nodes) in (
+          n,
+          elim (decLe (peak t) 1024) [
+            | yes l ↦ l
+            | no g ↦ absurd (refused≢found (sym (nodes-few n .breaks (omega arith)) ∙ e))
+          ],
+        ),
+    λ h. nodes-few (h .0) .fits (h .1),
+  )
+
+  pub written-refused : 2 * length (postfix t) + 2 < 4294967296 → ((length (postfix t) ≤ 16384) × (peak t ≤ 1024) → ⊥)
+      → judgeTree ranks (encodeTree t) ≡ refused 11
+  written-refused l not-both = elim (decLe (length (postfix t)) 16384) [
+    | yes n ↦ nodes-few n .breaks (elim (decLe (peak t) 1024) [ yes p ↦ absurd (not-both (n, p)) | no g ↦ omega arith ])
+    | no g ↦ nodes-many l (omega arith)
+  ]

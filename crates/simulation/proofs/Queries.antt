@@ -1,7 +1,7 @@
 -- The two queries: what their loops scan, the relation that a decoded table gives, and the answers.
-use Prim.Native.Nat.{ℕ, suc, _+_, _-_, _*_, _≤_, _<_}
+use Prim.Native.Nat.{ℕ, suc, _+_, _-_, _*_, _/_, _%_, _^_, _≤_, _<_}
 use mathlib.Core.Path.{_≡_, refl, sym, ap, _∙_}
-use mathlib.Core.Logic.{_⊎_, inl, inr}
+use mathlib.Core.Logic.{_⊎_, inl, inr, _↔_}
 use mathlib.Core.List.{List, [], _∷_, map}
 use mathlib.Core.Bool.{Bool, true, false, not, _&&_, _||_, true≢false}
 use native.Mathlib.Nat.{add-zero}
@@ -11,7 +11,7 @@ use lib.ListN.{length, getD, take, drop, length-map}
 use lib.Seq.{drop-cons}
 use lib.Dec.{eqb, ltb}
 use borrow.Author.Tests.{eq-eqb, ne-eqb, eqb-true, lt-ltb, le-ltb, not-false}
-use Rattle.automaton.specs.Lists.{from}
+use Rattle.automaton.specs.Lists.{Distinct, from}
 use Rattle.automaton.specs.Automaton.{Rule, Automaton, WellFormed}
 use Rattle.automaton.specs.StateSet.{setOf}
 use Rattle.automaton.specs.Refusal.{numberOf}
@@ -27,6 +27,7 @@ use Rattle.automaton.specs.declared.table.Judged.the-variants as judged
 use Rattle.automaton.specs.declared.decoding.Decoded.{Decoded}
 use Rattle.automaton.proofs.Inversion.{refused≢found}
 use Rattle.automaton.proofs.Meaning.{Held}
+use Rattle.automaton.proofs.StateSets.{bit}
 use Rattle.automaton.proofs.WrittenBytes.{length-from, few-states, few-rules, room-enough, room-short}
 use Rattle.simulation.specs.Tree.{any}
 use Rattle.simulation.specs.Simulation.{Relation, related, paired, matchedBy, matched, survives, every, relation, rounds}
@@ -36,9 +37,9 @@ use Rattle.simulation.specs.declared.query.Compared.the-variants as comp
 use Rattle.simulation.specs.declared.query.Related.the-variants as answer
 use Rattle.simulation.specs.Words.{statesIn, rulesIn, relationWords}
 use Rattle.simulation.specs.Inner.{RowRanged, StatesBelow, bytesOf, onesOf, firstFailing, firstUnmatched}
-use Rattle.simulation.proofs.RelationWords.{all-states-in, bytes-rows, ones-pairs}
-use Rattle.simulation.proofs.Pairs.{pairsIn, survives-related, relation-length}
-use Rattle.simulation.proofs.Ranges.{from-member}
+use Rattle.simulation.proofs.RelationWords.{all-states-in, bytes-rows, rows-bit, ones-pairs}
+use Rattle.simulation.proofs.Pairs.{pairsIn, survives-related, relation-length, relation-distinct}
+use Rattle.simulation.proofs.Ranges.{from-member, from-distinct}
 use Rattle.simulation.proofs.Ranged as ranged
 use Rattle.simulation.proofs.Preorder.{preorder-states}
 use Rattle.simulation.proofs.Search.{and-true-in, and-false-left, and-false-right, or-false-out}
@@ -206,14 +207,25 @@ pub query-refused : (b out : List ℕ) (cause : Refusal) → judge b ≡ refused
 unfolding relatedOf relationQuery relationAfter _>>=_
 query-refused b out cause e = rw e (refl, refl)
 
-module _ (b out : List ℕ) (A : Automaton) (w : WellFormed A) (e : judge b ≡ found A) where
+pub relation-once : (A : Automaton) → Distinct (simulationOf A)
+unfolding simulationOf
+relation-once A = relation-distinct (A .rules) (from 0 (A .states)) (from-distinct 0 (A .states))
+
+module _ (A : Automaton) (w : WellFormed A) where
   bytes-are : bytesOf (relationWords (simulationOf A)) (32 * A .states) ≡ relationBytes A
   unfolding relationBytes
   bytes-are = bytes-rows (simulationOf A) (A .states) (w .states)
 
-  length-bytes : length (relationBytes A) ≡ 32 * A .states
+  pub length-bytes : length (relationBytes A) ≡ 32 * A .states
   unfolding bytesOf
   length-bytes = rw (← bytes-are, length-map, length-from)
+
+  pub relation-bit : (q r : ℕ) → q < A .states → r < 256
+      → (getD (relationBytes A) (32 * q + r / 8) 0 / 2 ^ (r % 8) % 2 ≡ 1) ↔ (related (simulationOf A) q r ≡ true)
+  unfolding relationBytes bit
+  relation-bit q r h l =
+      let e = rows-bit (simulationOf A) (A .states) q r (w .states) h l in
+      (λ one. sym e ∙ eq-eqb _ 1 one, λ t. eqb-true _ 1 (e ∙ t))
 
   counted : length (simulationOf A) ≡ pairsIn (related (simulationOf A)) (from 0 (A .states)) (from 0 (A .states))
   unfolding simulationOf
@@ -228,22 +240,27 @@ module _ (b out : List ℕ) (A : Automaton) (w : WellFormed A) (e : judge b ≡ 
       go q r h true f = absurd (let low = preorder-states A w q r f in omega arith)
       go q r h false f = refl
 
+module _ (b out : List ℕ) (A : Automaton) (w : WellFormed A) (e : judge b ≡ found A) where
   pub query-short : length out < 32 * A .states
       → (relatedOf (answer.Refused ShortOutput) ≡ relationQuery b out) × (out ≡ relationAfter (judge b) out)
   unfolding relatedOf relationQuery relationAfter _>>=_ _>>_
   query-short h =
-      let short = room-short (relationBytes A) out (rw length-bytes h) in
+      let short = room-short (relationBytes A) out (rw (length-bytes A w) h) in
       rw (e, short .0, short .1) (refl, refl)
+
+  pub query-found : 32 * A .states ≤ length out
+      → relationQuery b out ≡ found (record { rounds = roundsOf A; pairs = length (simulationOf A) })
+  unfolding relationQuery _>>=_ _>>_
+  query-found h = rw (e, room-enough (relationBytes A) out (rw (length-bytes A w) h) .0)
 
   pub query-written : (words after : List ℕ) (n count pairs : ℕ) → n ≡ A .states → 32 * n ≤ length out
       → words ≡ relationWords (simulationOf A) → count ≡ roundsOf A
       → after ≡ over out 0 (bytesOf words (32 * n)) → pairs ≡ onesOf (take (4 * n) words)
       → (relatedOf (answer.Pairs count pairs) ≡ relationQuery b out) × (after ≡ relationAfter (judge b) out)
-  unfolding relatedOf relationQuery relationAfter _>>=_ _>>_
+  unfolding relatedOf relationAfter
   query-written words after n count pairs s h f g o p =
-      let enough = room-enough (relationBytes A) out (rw (length-bytes, ← s) h) in
-      rw (e, enough .0, enough .1)
-      (rw (g, p, f, s, pairs-are), rw (o, f, s, bytes-are))
+      let enough = room-enough (relationBytes A) out (rw (length-bytes A w, ← s) h) in
+      (rw (query-found (omega arith), g, p, f, s, pairs-are A w), rw (e, enough .1, o, f, s, bytes-are A w))
 
 -- The pair query.
 
@@ -271,10 +288,14 @@ module _ (b : List ℕ) (q r : ℕ) (A : Automaton) (e : judge b ≡ found A) wh
     inside : (ltb q (A .states) && ltb r (A .states)) ≡ true
     inside = and-true-in (lt-ltb q (A .states) hq) (lt-ltb r (A .states) hr)
 
+    pub pair-found : pairQuery b q r ≡ found (related (simulationOf A) q r)
+    unfolding pairQuery _>>=_ _>>_ check
+    pair-found = rw (e, inside)
+
     pub compares-yes : related (simulationOf A) q r ≡ true → Compares b q r compared.Yes
-    unfolding comparisonOf isYes mapRead pairQuery _>>=_ _>>_ check
+    unfolding comparisonOf isYes mapRead
     compares-yes h = record {
-      verdict = rw (e, inside, h);
+      verdict = rw (pair-found, h);
       unmatched = λ B f i g. absurd (let z : _≡_ {A = ℕ} 0 1 = cc in omega arith);
     }
 
@@ -308,9 +329,9 @@ module _ (b : List ℕ) (q r : ℕ) (A : Automaton) (e : judge b ≡ found A) wh
 
     pub compares-rule : (i : ℕ) (rules : List Rule) → related (simulationOf A) q r ≡ false → rules ≡ A .rules
         → i ≡ firstUnmatched rules (simulationOf A) q r → Compares b q r (compared.Rule i)
-    unfolding comparisonOf isYes mapRead pairQuery _>>=_ _>>_ check
+    unfolding comparisonOf isYes mapRead
     compares-rule i rules h same-rules f = record {
-      verdict = rw (e, inside, h);
+      verdict = rw (pair-found, h);
       unmatched = λ B g j k.
           let same : A ≡ B = cc in
           let number : firstUnmatched (A .rules) (simulationOf A) q r ≡ j = cc in

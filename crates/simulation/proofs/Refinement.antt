@@ -103,13 +103,10 @@ unfolding paired
 each-paired R none = refl
 each-paired R (also h hs) = and-true-in h (each-paired R hs)
 
-pub survives-matched : (rules : List Rule) (R : Relation) (q r : ℕ) → survives rules R (q, r) ≡ true
-    → (u : Rule) → List·Memᴰ u rules → u .target ≡ q → Matched (Within R) rules r u
-unfolding survives matched matchedBy
-survives-matched rules R q r h u m e =
-    let answered : Rule → Bool = λ (w : Rule). any (λ (v : Rule). eqb (v .target) r && matchedBy R w v) rules in
-    let f = every-out (λ (w : Rule). not (eqb (w .target) q) || answered w) h u m in
-    let s = any-out (λ (v : Rule). eqb (v .target) r && matchedBy R u v) rules (rw (eq-eqb (u .target) q e) at f) in
+pub matched-out : (rules : List Rule) (R : Relation) (r : ℕ) (u : Rule) → matched rules R r u ≡ true → Matched (Within R) rules r u
+unfolding matched matchedBy
+matched-out rules R r u h =
+    let s = any-out (λ (v : Rule). eqb (v .target) r && matchedBy R u v) rules h in
     let v = s .element in
     let a = and-true-out (eqb (v .target) r) (matchedBy R u v) (s .passes) in
     let b = and-true-out (eqb (u .symbol) (v .symbol)) (paired R (u .children) (v .children)) (a .1) in
@@ -121,17 +118,26 @@ survives-matched rules R q r h u m e =
       children = paired-each R (u .children) (v .children) (b .1);
     }
 
+pub matched-in : (rules : List Rule) (R : Relation) (r : ℕ) (u : Rule) → Matched (Within R) rules r u → matched rules R r u ≡ true
+unfolding matched matchedBy
+matched-in rules R r u a =
+    any-in (λ (v : Rule). eqb (v .target) r && matchedBy R u v) (a .is-rule)
+    (and-true-in (eq-eqb _ r (a .target)) (and-true-in (eq-eqb _ _ (a .symbol)) (each-paired R (a .children))))
+
+pub survives-matched : (rules : List Rule) (R : Relation) (q r : ℕ) → survives rules R (q, r) ≡ true
+    → (u : Rule) → List·Memᴰ u rules → u .target ≡ q → Matched (Within R) rules r u
+unfolding survives
+survives-matched rules R q r h u m e =
+    let f = every-out (λ (v : Rule). not (eqb (v .target) q) || matched rules R r v) h u m in
+    matched-out rules R r u (rw (eq-eqb (u .target) q e) at f)
+
 pub matched-survives : (rules : List Rule) (R : Relation) (q r : ℕ)
     → ((u : Rule) → List·Memᴰ u rules → u .target ≡ q → Matched (Within R) rules r u) → survives rules R (q, r) ≡ true
-unfolding survives matched matchedBy
+unfolding survives
 matched-survives rules R q r h = every-in _ rules (λ u m. go u m (eqb (u .target) q) refl)
   where
-    go : (u : Rule) → List·Memᴰ u rules → (t : Bool) → eqb (u .target) q ≡ t
-        → (not t || any (λ (v : Rule). eqb (v .target) r && matchedBy R u v) rules) ≡ true
-    go u m true e =
-        let a = h u m (eqb-true (u .target) q e) in
-        any-in (λ (v : Rule). eqb (v .target) r && matchedBy R u v) (a .is-rule)
-        (and-true-in (eq-eqb _ r (a .target)) (and-true-in (eq-eqb _ _ (a .symbol)) (each-paired R (a .children))))
+    go : (u : Rule) → List·Memᴰ u rules → (t : Bool) → eqb (u .target) q ≡ t → (not t || matched rules R r u) ≡ true
+    go u m true e = matched-in rules R r u (h u m (eqb-true (u .target) q e))
     go u m false e = refl
 
 -- The rounds.

@@ -12,7 +12,7 @@ use lib.Dec.{eqb}
 use lib.Bits.{bitOr, or-lt}
 use lib.Pow.{pow-lt, mod-pow-add, shr-shr, shr-lt}
 use lib.Count.{ones, ones-step}
-use borrow.Author.Tests.{eqb-true, eqb-false}
+use borrow.Author.Tests.{eq-eqb, ne-eqb, eqb-true, eqb-false}
 use Rattle.automaton.specs.Lists.{none, from, keep}
 use Rattle.automaton.specs.StateSet.{member, words, emptySet, replaced, withState, withAll, setOf}
 use Rattle.automaton.specs.Inner.{over}
@@ -24,7 +24,7 @@ use Rattle.simulation.specs.Simulation.{Relation, related}
 use Rattle.simulation.specs.Query.{bitsFrom, rowBytes, relationRows}
 use Rattle.simulation.specs.Words.{statesIn, rowWords, rowsWords, relationWords}
 use Rattle.simulation.specs.Inner.{byteOf, bytesOf, onesOf}
-use Rattle.simulation.proofs.Ranges.{from-append, from-low, from-rising, keep-none, elem-keep}
+use Rattle.simulation.proofs.Ranges.{map-from-at, from-append, from-low, from-rising, keep-none, elem-keep}
 use Rattle.simulation.proofs.Pairs.{pairsIn}
 
 pub all-states-in : (n : ℕ) → n ≤ 256 → statesIn n (setOf (from 0 n)) ≡ from 0 n
@@ -124,6 +124,11 @@ pub bit-shifted : (w s k : ℕ) → bit (w / 2 ^ s) k ≡ bit w (s + k)
 unfolding bit
 bit-shifted w s k = rw shr-shr
 
+lowest : (t : Bool) (x : ℕ) → (bit (cond t 1 0 + 2 * x) 0 ≡ t) × ((cond t 1 0 + 2 * x) / 2 ≡ x)
+unfolding bit
+lowest true x = (eq-eqb ((1 + 2 * x) / 2 ^ 0 % 2) 1 (omega arith), omega arith)
+lowest false x = (ne-eqb ((0 + 2 * x) / 2 ^ 0 % 2) 1 (omega arith), omega arith)
+
 low-bits : (R : Relation) (q n r x : ℕ) → ((k : ℕ) → k < n → bit x k ≡ related R q (r + k))
     → x % 2 ^ n ≡ bitsFrom R q r n
 unfolding bitsFrom bit
@@ -170,6 +175,29 @@ module _ (R : Relation) where
   pub bytes-rows : (n : ℕ) → n ≤ 256 → bytesOf (relationWords R) (32 * n) ≡ relationRows R (from 0 n)
   unfolding bytesOf
   bytes-rows n h = rows-bytes n 0 (omega arith)
+
+  -- A bit of the rows is a pair.
+  bits-bit : (n q r k : ℕ) → k < n → bit (bitsFrom R q r n) k ≡ related R q (r + k)
+  unfolding bitsFrom
+  bits-bit zero q r k h = absurd (omega arith)
+  bits-bit (suc n) q r zero h = rw add-zero (lowest (related R q r) (bitsFrom R q (suc r) n) .0)
+  bits-bit (suc n) q r (suc k) h =
+      bit-suc _ k
+      ∙ ap (λ (x : ℕ). bit x k) (lowest (related R q r) (bitsFrom R q (suc r) n) .1)
+      ∙ bits-bit n q (suc r) k (omega arith)
+      ∙ ap (related R q) (omega arith)
+
+  pub rows-bit : (n q r : ℕ) → n ≤ 256 → q < n → r < 256
+      → bit (getD (relationRows R (from 0 n)) (32 * q + r / 8) 0) (r % 8) ≡ related R q r
+  unfolding bytesOf
+  rows-bit n q r h l b =
+      rw (
+        ← bytes-rows n h,
+        map-from-at (byteOf (relationWords R)) 0 (32 * n) (32 * q + r / 8) (omega arith),
+        zero-add,
+        byte-is q (r / 8) (omega arith) (omega arith),
+      )
+      (bits-bit 8 q (8 * (r / 8)) (r % 8) (omega arith) ∙ ap (related R q) (omega arith))
 
 -- A row's bits that are set.
 

@@ -1,26 +1,32 @@
 -- What holds of checking and of the simulation, stated over the definitions of specs/ alone.
-use Prim.Native.Nat.{ℕ, suc, _*_, _-_, _≤_, _<_}
-use mathlib.Core.Path.{_≡_, ap, _∙_}
+use Prim.Native.Nat.{ℕ, suc, _+_, _*_, _-_, _/_, _%_, _^_, _≤_, _<_}
+use mathlib.Core.Path.{_≡_, sym, ap, _∙_}
 use mathlib.Core.Logic.{_⊎_, _↔_}
-use mathlib.Core.List.{List}
-use mathlib.Core.Bool.{true}
+use mathlib.Core.List.{List, List·Memᴰ}
+use mathlib.Core.Bool.{true, true≢false}
 use lib.ListN.{length, getD}
-use Rattle.automaton.specs.Lists.{from}
+use Rattle.automaton.specs.Lists.{Distinct, from}
 use Rattle.automaton.specs.Automaton.{Automaton, WellFormed}
-use Rattle.automaton.specs.Read.{found, refused, _>>=_}
+use Rattle.automaton.specs.Read.{found, refused}
 use Rattle.automaton.specs.Table.{judge}
 use Rattle.automaton.proofs.Causes.{cause-of}
+use Rattle.automaton.proofs.Theorems.{judged-well-formed}
 use Rattle.simulation.specs.Tree.{Tree, Over, belongs, accepts}
 use Rattle.simulation.specs.Run.{Reaches, Accepts}
-use Rattle.simulation.specs.Postfix.{judgeTree, postfix, encodeTree}
-use Rattle.simulation.specs.Check.{acceptance}
-use Rattle.simulation.specs.Simulation.{Simulates, related, relationAt}
-use Rattle.simulation.specs.Query.{simulationOf, roundsOf, relationQuery, relationAfter, pairQuery}
+use Rattle.simulation.specs.Postfix.{judgeTree, postfix, peak, encodeTree}
+use Rattle.simulation.specs.Check.{acceptance, Checks}
+use Rattle.simulation.specs.declared.checking.Checked.{Checked}
+use Rattle.simulation.specs.declared.checking.Counts.{Counts}
+use Rattle.simulation.specs.declared.checking.Answer.the-variants.{Accepted, Rejected}
+use Rattle.simulation.specs.Simulation.{Matched, Simulates, related, relationAt}
+use Rattle.simulation.specs.Query.{simulationOf, roundsOf, relationBytes, relationQuery, relationAfter, pairQuery, Unmatched}
 use Rattle.simulation.proofs.Runs as runs
 use Rattle.simulation.proofs.Language as language
 use Rattle.simulation.proofs.Refinement as refinement
 use Rattle.simulation.proofs.Preorder as preorder
 use Rattle.simulation.proofs.Postfix as trees
+use Rattle.simulation.proofs.Accepting as accepting
+use Rattle.simulation.proofs.Queries as queries
 use Rattle.simulation.proofs.Causes as causes
 
 -- A tree belongs to a state, in document 01's words, exactly if it reaches it by a run.
@@ -30,9 +36,8 @@ belongs-reaches A t q = (runs.belongs-reaches (A .rules) t q, runs.reaches-belon
 -- A tree that is not refused is accepted exactly if some run over it ends in a final state.
 pub accepted-runs : (table tree : List ℕ) (A : Automaton) (t : Tree) → judge table ≡ found A → judgeTree (A .ranks) tree ≡ found t
     → (acceptance table tree ≡ found true) ↔ Accepts A t
-unfolding acceptance _>>=_
 accepted-runs table tree A t e f =
-    let answer : acceptance table tree ≡ found (accepts A t) = rw (e, f) in (
+    let answer = accepting.acceptance-found table tree A t e f in (
       λ h. runs.accepts-run A t (let same : accepts A t ≡ true = cc in same),
       λ h. answer ∙ ap found (runs.run-accepts A t h),
     )
@@ -75,10 +80,61 @@ pub read-tree : (ranks b : List ℕ) (t : Tree) → ((i : ℕ) → getD b i 0 < 
     → Over ranks t × (encodeTree t ≡ b)
 read-tree ranks b t bytes e = (trees.tree-found ranks b t e .over, trees.encode-tree-judged ranks b t bytes e)
 
--- A tree over the symbols of at most 16,384 nodes, written, is read back as that tree, unless too many trees wait (11).
-pub written-tree : (ranks : List ℕ) (t : Tree) → length ranks ≤ 256 → length (postfix t) ≤ 16384 → Over ranks t
-    → (judgeTree ranks (encodeTree t) ≡ found t) ⊎ (judgeTree ranks (encodeTree t) ≡ refused 11)
-written-tree = trees.judge-tree-encoded
+-- A tree over the symbols, written, is read back exactly if it has at most 16,384 nodes and at most 1,024 trees wait; any other whose
+-- length fits a record's four bytes is refused with 11.
+module _ (ranks : List ℕ) (t : Tree) (few : length ranks ≤ 256) (over : Over ranks t) where
+  pub written-tree : (judgeTree ranks (encodeTree t) ≡ found t) ↔ ((length (postfix t) ≤ 16384) × (peak t ≤ 1024))
+  written-tree = trees.written-read ranks t few over
+
+  pub written-tree-refused : 2 * length (postfix t) + 2 < 4294967296 → ((length (postfix t) ≤ 16384) × (peak t ≤ 1024) → ⊥)
+      → judgeTree ranks (encodeTree t) ≡ refused 11
+  written-tree-refused = trees.written-refused ranks t few over
+
+-- So every tree over a table's symbols that keeps both limits gets an answer, and `check` accepts it exactly if some run accepts it.
+module _ (table : List ℕ) (A : Automaton) (t : Tree) (judged : judge table ≡ found A) (over : Over (A .ranks) t)
+    (nodes : length (postfix t) ≤ 16384) (waiting : peak t ≤ 1024) where
+  pub acceptance-answers : acceptance table (encodeTree t) ≡ found (accepts A t)
+  acceptance-answers =
+      let w : WellFormed A = judged-well-formed table A judged in
+      accepting.acceptance-found table (encodeTree t) A t judged (written-tree (A .ranks) t (w .symbols) over .1 (nodes, waiting))
+
+  pub check-answers : (counts : Counts) (r : Checked) → Checks counts table (encodeTree t) r
+      → ((r .answer ≡ Accepted) ⊎ (r .answer ≡ Rejected)) × ((r .answer ≡ Accepted) ↔ Accepts A t)
+  check-answers counts r c =
+      let s = accepting.answer-found (r .answer) (c .answer ∙ acceptance-answers) in
+      (s .0, (λ h. runs.accepts-run A t (s .1 .0 h), λ h. s .1 .1 (runs.run-accepts A t h)))
+
+-- A table that is not refused gets an answer to each query: the relation query where the output has room, the pair query for its states.
+module _ (table : List ℕ) (A : Automaton) (judged : judge table ≡ found A) where
+  pub relation-answers : (out : List ℕ) → 32 * A .states ≤ length out
+      → relationQuery table out ≡ found (record { rounds = roundsOf A; pairs = length (simulationOf A) })
+  relation-answers out = queries.query-found table out A (judged-well-formed table A judged) judged
+
+  pub pair-answers : (q r : ℕ) → q < A .states → r < A .states → pairQuery table q r ≡ found (related (simulationOf A) q r)
+  pair-answers q r = queries.pair-found table q r A judged
+
+-- The relation query writes 32 bytes for each state; bit r mod 8 of byte r div 8 in row q is 1 exactly if q ≤ r.
+module _ (A : Automaton) (w : WellFormed A) where
+  pub relation-length : length (relationBytes A) ≡ 32 * A .states
+  relation-length = queries.length-bytes A w
+
+  pub relation-bit : (q r : ℕ) → q < A .states → r < 256
+      → (getD (relationBytes A) (32 * q + r / 8) 0 / 2 ^ (r % 8) % 2 ≡ 1) ↔ (related (simulationOf A) q r ≡ true)
+  relation-bit = queries.relation-bit A w
+
+-- The pairs that it counts are those with q ≤ r, each once.
+module _ (A : Automaton) where
+  pub pairs-members : (q r : ℕ) → List·Memᴰ (q, r) (simulationOf A) ↔ (related (simulationOf A) q r ≡ true)
+  pairs-members q r = (refinement.member-related, refinement.related-member (simulationOf A) q r)
+
+  pub pairs-once : Distinct (simulationOf A)
+  pairs-once = queries.relation-once A
+
+  -- A rule that the pair query names has no match under ≤.
+  pub unmatched-rule : {q r i : ℕ} (u : Unmatched A q r i)
+      → Matched (λ (p s : ℕ). related (simulationOf A) p s ≡ true) (A .rules) r (u .rule) → ⊥
+  unmatched-rule {r = r} u m =
+      true≢false (sym (refinement.matched-in (A .rules) (simulationOf A) r (u .rule) m) ∙ u .unmatched)
 
 -- Refusals: of a tree by 8 to 11, of a check by these or the table's 1 to 7, of a query by the table's or by 13 and 12.
 pub tree-causes : (ranks b : List ℕ) (cause : ℕ) → judgeTree ranks b ≡ refused cause → (8 ≤ cause) × (cause ≤ 11)

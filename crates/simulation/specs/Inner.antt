@@ -1,5 +1,5 @@
--- What only the contracts of inner functions, and the `requires` of the inner call `simulate`, cite; the meaning of the public calls
--- needs none of it.
+-- What the contracts of inner functions and of those exported for the crates above (`simulate`, `is_matched_by`, `chain_rules`, `differ`,
+-- `all_in`) cite; no call for everybody cites any of it.
 use Prim.Native.Nat.{ℕ, zero, suc, _+_, _*_, _/_, _%_, _^_, _≤_, _<_}
 use mathlib.Core.Path.{_≡_}
 use mathlib.Core.List.{List, [], _∷_, map, List·Memᴰ}
@@ -38,12 +38,12 @@ pub data Chain (next : List ℕ) : ℕ → List ℕ → Type 0 where
 unfoldable pub Chains : List ℕ → ℕ → ℕ → List ℕ → List ℕ → Type 0
 Chains rows column k head next = (key : ℕ) → key < 256 → Chain next (getD head key 0) (keyed rows column key 0 k)
 
--- Numbers are placed at index `at` and behind; what stood before it stays.
+-- Numbers are placed from index `at` on; what stood before it stays.
 pub record Placed (numbers : List ℕ) (at : ℕ) (order next : List ℕ) : Type 0 where
   pub kept : (j : ℕ) → j < at → getD next j 0 ≡ getD order j 0
   pub placed : (j : ℕ) → j < length numbers → getD next (at + j) 0 ≡ getD numbers j 0
 
--- The rules of a symbol stand in order from its index on, and those of the next symbol behind them.
+-- The rules of a symbol stand in order from its index on, and those of the next symbol after them.
 pub record Group (rows : List ℕ) (k : ℕ) (first order : List ℕ) (f : ℕ) : Type 0 where
   pub end : getD first (f + 1) 0 ≡ getD first f 0 + length (keyed rows 0 f 0 k)
   pub placed : (j : ℕ) → j < length (keyed rows 0 f 0 k) → getD order (getD first f 0 + j) 0 ≡ getD (keyed rows 0 f 0 k) j 0

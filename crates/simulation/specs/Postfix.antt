@@ -1,4 +1,4 @@
--- A tree in bytes (document 01: "sheet"): one record of kind 16 and nothing behind it; its body is the tree in postfix order.
+-- A tree in bytes (document 01: "sheet"): one record of kind 16 and nothing after it; its body is the tree in postfix order.
 use Prim.Native.Nat.{ℕ, suc, _+_, _%_, max}
 use mathlib.Core.List.{List, [], _∷_, _++_, reverse}
 use mathlib.Core.Bool.{Bool, false, _&&_}
@@ -15,7 +15,7 @@ treesIn [] = nil
 treesIn (t ∷ ts) = cons t (treesIn ts)
 
 -- One node: its symbol (9), its rank against the trees on the stack (10), and the trees that then stand there (11).
--- The stack's top is the last tree that was finished.
+-- The stack's top is the last tree that was finished. The symbol is below the number of ranks where its rank is read.
 unfoldable pub push : List ℕ → List Tree → ℕ → Read (List Tree)
 push ranks stack f = do
   check (ltb f (length ranks)) 9
@@ -35,7 +35,7 @@ single [] = refused 10
 single (t ∷ []) = found t
 single (t ∷ (s ∷ ts)) = refused 10
 
--- One whole record of kind 16, nothing behind it, and an even body (8).
+-- One whole record of kind 16, nothing after it, and an even body (8).
 unfoldable pub isTreeRecord : Opening → List ℕ → Bool
 isTreeRecord (whole kind end) b = eqb kind 16 && (eqb end (length b) && eqb (length (bodyOf b) % 2) 0)
 isTreeRecord nothing b = false

@@ -76,7 +76,7 @@ pub record Unmatched (A : Automaton) (q r i : ℕ) : Type 0 where
   pub target : rule .target ≡ q
   pub unmatched : matched (A .rules) (simulationOf A) r rule ≡ false
 
--- What the pair query answers: yes, or the number of a rule.
+-- What the pair query returns: yes, or the number of a rule.
 pub data Comparison : Type 0 where
   yes : Comparison
   rule : ℕ → Comparison

@@ -15,7 +15,7 @@ mutual
     nil : Trees
     cons : Tree → Trees → Trees
 
--- A tree over some symbols, given by their ranks: each node has a symbol of them and as many children as its rank.
+-- A tree over some symbols, given by their ranks: each node has a symbol of them, so that its rank is there, and as many children as that.
 unfoldable pub width : Trees → ℕ
 width nil = zero
 width (cons t ts) = suc (width ts)

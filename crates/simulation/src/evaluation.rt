@@ -257,7 +257,7 @@ fn accept_nodes(
     accept_on(size, finals, ranks, rows, b, &mut stack)
 }
 
-// Whether `t` is one record of kind 16 with an even body, and nothing behind it.
+// Whether `t` is one record of kind 16 with an even body, and nothing after it.
 fn is_tree(t: &[u8]) -> bool
     ensures { λ r. ⌜ r ≡ isTreeRecord (opened (now (t .entry))) (now (t .entry)) ⌝ }
 {

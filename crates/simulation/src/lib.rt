@@ -6,17 +6,20 @@ mod query;
 mod rounds;
 mod states;
 
+// Calls for everybody, with their answers: they ask nothing of their caller.
 pub use checking::Answer;
 pub use checking::Checked;
 pub use checking::Counts;
 pub use checking::check;
-pub use index::chain_rules;
 pub use query::Compared;
 pub use query::Related;
 pub use query::compare;
+pub use query::relate;
+
+// Exported for the crates above: parts of the work, on decoded arrays and numbers in range.
+pub use index::chain_rules;
 pub use query::has_pair;
 pub use query::is_matched_by;
-pub use query::relate;
 pub use rounds::Relation;
 pub use rounds::differ;
 pub use rounds::simulate;

@@ -85,7 +85,7 @@ fn count_pairs(words: &[u64], n: usize) -> usize
     count
 }
 
-// Writes the simulation preorder of a table's states to the start of `out`, 32 bytes to a state, and answers its rounds
+// Writes the simulation preorder of a table's states to the start of `out`, 32 bytes to a state, and returns its rounds
 // and the number of its pairs. Refuses a table as `decode` does, and an `out` that is too short with 13; a refusal leaves
 // `out` as it is.
 pub fn relate(table: &[u8], out: &mut [u8]) -> Related

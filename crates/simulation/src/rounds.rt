@@ -373,7 +373,7 @@ fn flatten(last: &[[u64; 4]; 256], n: usize, words: &mut [u64])
     }
 }
 
-// Refines the relation of all pairs of states below n until a round changes nothing; answers how many rounds did.
+// Refines the relation of all pairs of states below n until a round changes nothing; returns how many rounds did.
 fn settle(
     states: StateSet,
     n: usize,

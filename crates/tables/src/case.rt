@@ -21,7 +21,7 @@ pub fn report(t: &[u8]) {
     decode(t);
 }
 
-// Opens records one behind the other: how many there are, a checksum of their kinds and bodies, and what ends them.
+// Opens records one after the other: how many there are, a checksum of their kinds and bodies, and what ends them.
 fn records(t: &[u8]) {
     let mut rest = t;
     let mut count: usize = 0;

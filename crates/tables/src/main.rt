@@ -1,5 +1,5 @@
 // Reads cases from standard input, each a name and some bytes, and writes what opening, judging, decoding and writing find.
-// A case: its name, behind a byte of length, and its bytes, behind four bytes of length.
+// A case: its name, after a byte of length, and its bytes, after four bytes of length.
 mod case;
 
 fn main() {

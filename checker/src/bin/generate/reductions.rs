@@ -1,8 +1,8 @@
-//! Tables to be reduced, and once more.
+//! Tables to be reduced, and once more, and to be reported on.
 
 mod cases;
 
-use checker::{Change, Reduced, Refusal, reduce, report};
+use checker::{Change, MAX_INPUT, Reduced, Refusal, reduce, report, report_on};
 
 use crate::suite::{FILL, Suite, checksum, line, sized};
 use crate::tables::LONGEST;
@@ -38,6 +38,8 @@ pub fn suite() -> Suite {
             }
             Err(_) => assert!(out.iter().all(|&byte| byte == FILL), "the output of {name} stays"),
         }
+        lines.push_str("report\n");
+        lines.push_str(&report_lines(&name, &table, answer));
         assert!(table.len() <= LONGEST, "the table of {name} is too long");
         assert!(room <= LONGEST_OUTPUT, "the output of {name} is too long");
 
@@ -59,5 +61,18 @@ fn lines(answer: Result<Reduced, Refusal>, out: &[u8]) -> String {
         line(&mut lines, "length", [length]);
     }
     line(&mut lines, "output", [checksum(out)]);
+    lines
+}
+
+/// The report on a table, which this answer was given for.
+fn report_lines(name: &str, table: &[u8], answer: Result<Reduced, Refusal>) -> String {
+    let lines = report_on(table);
+    match answer {
+        // A report has no output that could be too short for the reduced table.
+        Err(Refusal::ShortOutput) => {}
+        // A report looks at the first bytes, which end within the last record.
+        _ if table.len() > MAX_INPUT => assert_eq!(lines, "refused 1\n", "the report on {name}"),
+        _ => assert_eq!(lines, report(answer), "the report on {name}"),
+    }
     lines
 }

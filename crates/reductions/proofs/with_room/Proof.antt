@@ -19,4 +19,5 @@ with-room-spec =
     (λ c. search needs)
     slice-aggregate-twice
     (λ c κs. search needs)
+    (λ c κs. search needs)
     (λ c. search needs))

@@ -1,4 +1,4 @@
--- `automaton::bytes::number4` meets its contract: two numbers of two bytes, one behind the other.
+-- `automaton::bytes::number4` meets its contract: two numbers of two bytes, one after the other.
 use borrow.Author.Needs.{needs}
 use Rattle.automaton.specs.Bytes.{number4}
 use Rattle.automaton.proofs.bytes.number4.Statement.{statement}

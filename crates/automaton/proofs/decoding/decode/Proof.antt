@@ -29,7 +29,7 @@ use Rattle.automaton.proofs.WrittenBytes.{over-behind}
 use Rattle.automaton.proofs.decoding.decode.Statement.{statement}
 use Rattle.automaton.proofs.decoding.decode.Tie as tie
 
--- What the judge found, by the counts or the cause that it answers.
+-- What the judge found, by the counts or the cause that it returns.
 refusal-judged : (r : Read Automaton) {cause : ℕ} → sized r ≡ refused cause → r ≡ refused cause
 unfolding sized mapRead
 refusal-judged (found A) h = absurd (refused≢found (sym h))
@@ -104,7 +104,7 @@ table-answered c = rw (c .before .judged .given .1) at (c .before .before .befor
 part-ranked-start : tie.Need-part-ranked-start
 part-ranked-start c = rw (c .first-end .ensures) (end-within _)
 
--- The bytes behind the first record, and behind the second.
+-- The bytes after the first record, and after the second.
 behind-head : (c : tie.After-first-end)
     → let t = now (c .before .before .before .before .before .before .args .t) in
     let end = c .first-end .result in

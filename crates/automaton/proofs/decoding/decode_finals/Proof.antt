@@ -1,4 +1,4 @@
--- `automaton::decoding::decode_finals` meets its contract: the first body, and the rows of what is behind it.
+-- `automaton::decoding::decode_finals` meets its contract: the first body, and the rows of what is after it.
 use borrow.Author.Needs.{needs}
 use Rattle.automaton.proofs.Copying.{end-within, part-behind}
 use Rattle.automaton.proofs.decoding.decode_finals.Statement.{statement}

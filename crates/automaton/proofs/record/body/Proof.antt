@@ -9,7 +9,7 @@ use Rattle.automaton.proofs.Answered.{told, none-opens}
 use Rattle.automaton.proofs.record.body.Statement.{statement}
 use Rattle.automaton.proofs.record.body.Tie as tie
 
--- A record: it lies within the bytes, and its body is what stands behind its kind.
+-- A record: it lies within the bytes, and its body is what stands after its kind.
 is-record : (c : tie.After-known-told)
     → let o = c .before .o .given .0 in
     opened (now (c .before .before .before .before .before .args .t)) ≡ whole (o .0) (o .1 .0)

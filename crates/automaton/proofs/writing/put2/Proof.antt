@@ -1,4 +1,4 @@
--- Two stores behind one another are a run of two bytes.
+-- Two stores, one after the other, are a run of two bytes.
 use native.Mathlib.Omega.{arith}
 use lib.ListN.{length-set}
 use borrow.Author.Needs.{needs}

@@ -1,4 +1,4 @@
--- Three runs of two bytes, one behind the other; the first two are the length's halves.
+-- Three runs of two bytes, one after the other; the first two are the length's halves.
 use native.Mathlib.Omega.{arith}
 use borrow.Author.Needs.{needs}
 use Rattle.automaton.specs.Bytes.{bytes2}

@@ -1,4 +1,4 @@
--- A head and three fields, one behind the other.
+-- A head and three fields, one after the other.
 use native.Mathlib.Omega.{arith}
 use borrow.Author.Needs.{needs}
 use Rattle.automaton.specs.Bytes.{bytes2, bytes4, fields}

@@ -1,4 +1,4 @@
--- The records go one behind the other, and the length that the room is compared with is theirs.
+-- The records go one after the other, and the length that the room is compared with is theirs.
 use Prim.Native.Nat.{ℕ, _+_, _*_, _≤_, _<_}
 use mathlib.Core.Path.{_≡_, sym, ap, _∙_}
 use mathlib.Core.List.{List}

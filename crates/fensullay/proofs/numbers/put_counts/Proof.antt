@@ -1,4 +1,4 @@
--- The three counts are written one behind the other.
+-- The three counts are written one after the other.
 use borrow.Author.Needs.{needs}
 use mathlib.Core.Path.{refl, _∙_}
 use mathlib.Core.List.{[]}

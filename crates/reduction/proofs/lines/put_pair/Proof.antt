@@ -1,4 +1,4 @@
--- The word, the two numbers and byte 10 go one behind the other.
+-- The word, the two numbers and byte 10 go one after the other.
 use Prim.Native.Nat.{_≤_}
 use native.Mathlib.Omega.{arith}
 use lib.ListN.{length, length-set}

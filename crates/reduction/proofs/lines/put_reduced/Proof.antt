@@ -1,4 +1,4 @@
--- The four lines go one behind the other, and have room: none is longer than its word and five digits for each number.
+-- The four lines go one after the other, and have room: none is longer than its word and five digits for each number.
 use Prim.Native.Nat.{_≤_}
 use native.Mathlib.Omega.{arith}
 use borrow.Author.Needs.{needs}

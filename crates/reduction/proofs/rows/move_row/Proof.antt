@@ -1,4 +1,4 @@
--- The loop copies: after c turns the first c numbers are written, and what is still to be read stands behind them.
+-- The loop copies: after c turns the first c numbers are written, and what is still to be read stands after them.
 use Prim.Native.Nat.{_-_, _*_, _≤_}
 use mathlib.Core.Path.{_≡_, ap}
 use native.Mathlib.Omega.{arith}

@@ -1,4 +1,4 @@
--- `reduction::steps::shorten` meets its contract: each step leaves the next stage, whose rows are in range for the step behind it.
+-- `reduction::steps::shorten` meets its contract: each step leaves the next stage, whose rows are in range for the step after it.
 use native.Mathlib.Omega.{arith}
 use mathlib.Core.Path.{refl}
 use mathlib.Core.List.{List·Memᴰ}

@@ -47,7 +47,7 @@ evaluate-requires c κs =
       start s .pre .0 .1 .0,
     )
 
--- The place where the arrays were lent first, seen from behind the evaluation.
+-- The place where the arrays were lent first, seen from after the evaluation.
 abbrev lent : tie.After-evaluate → tie.After-order
 lent c = c .before .before .before .before .before .before .before .before .before
 
