@@ -15,7 +15,8 @@ use Rattle.automaton.proofs.Keeping.{keep-all}
 use Rattle.simulation.specs.Run.{Run, Runs, at, none, also, root, roots, treeOf, IsRun, AreRuns, Occurs, OccursIn, Useful}
 use Rattle.simulation.specs.Simulation.{Relation}
 use Rattle.simulation.specs.Query.{simulationOf}
-use Rattle.simulation.proofs.Ranges.{from-member, member-from, from-rising}
+use Rattle.automaton.proofs.Ranges.{from-rising}
+use Rattle.simulation.proofs.Ranges.{from-member, member-from}
 use Rattle.simulation.proofs.Preorder.{all-member}
 use Rattle.simulation.proofs.Search.{and-true-in}
 use Rattle.reduction.specs.Steps.{Stage, among, buildable, productive, namesOnly, trimmed, below, representative, renamed, firsts}

@@ -18,7 +18,8 @@ use Rattle.simulation.specs.Simulation.{Relation, matchedBy}
 use Rattle.simulation.specs.Words.{rulesIn, relationWords}
 use Rattle.simulation.specs.Inner.{keyed, Chains}
 use Rattle.simulation.proofs.Search.{and-true-out, and-false-left, any-in, any-out}
-use Rattle.simulation.proofs.Ranges.{from-member, member-from, from-rising}
+use Rattle.automaton.proofs.Ranges.{from-rising}
+use Rattle.simulation.proofs.Ranges.{from-member, member-from}
 use Rattle.simulation.proofs.Stacks.{any-map, any-keep, any-same}
 use Rattle.simulation.proofs.Walks.{Walk, Keyed, walk-from, turn, walk-end}
 use Rattle.simulation.proofs.Queries.{and-left}

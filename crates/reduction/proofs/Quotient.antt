@@ -13,7 +13,8 @@ use Rattle.automaton.proofs.Keeping.{keep-in, keep-out}
 use Rattle.simulation.specs.Tree.{any}
 use Rattle.simulation.specs.Simulation.{Each, none, also, Matched, Simulates, related}
 use Rattle.simulation.proofs.Search.{and-true-in, and-true-out, any-in, any-out}
-use Rattle.simulation.proofs.Ranges.{from-member, from-rising}
+use Rattle.automaton.proofs.Ranges.{from-rising}
+use Rattle.simulation.proofs.Ranges.{from-member}
 use Rattle.simulation.proofs.Preorder.{all-member}
 use Rattle.simulation.proofs.Refinement.{Within}
 use Rattle.simulation.proofs.Maximality as maximality

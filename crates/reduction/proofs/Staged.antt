@@ -16,7 +16,8 @@ use Rattle.automaton.proofs.Keeping.{keep-agree, keep-in, keep-map, keep-out, k
 use Rattle.simulation.proofs.Ranged.{rule-in}
 use Rattle.simulation.specs.Words.{statesIn, rulesIn}
 use Rattle.simulation.specs.Inner.{RowRanged, Has}
-use Rattle.simulation.proofs.Ranges.{from-member, member-from, from-rising}
+use Rattle.automaton.proofs.Ranges.{from-rising}
+use Rattle.simulation.proofs.Ranges.{from-member, member-from}
 use Rattle.simulation.proofs.Preorder.{all-member}
 use Rattle.reduction.specs.Steps.{Stage, among}
 use Rattle.reduction.specs.Inner.{Sound, Known, marked}

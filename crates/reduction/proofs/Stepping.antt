@@ -19,7 +19,8 @@ use Rattle.simulation.specs.Words.{statesIn, rulesIn}
 use Rattle.simulation.specs.Inner.{RowRanged, Has}
 use Rattle.simulation.proofs.Search.{and-true-in, and-true-out, any-in, any-out}
 use Rattle.simulation.proofs.Stacks.{any-map}
-use Rattle.simulation.proofs.Ranges.{from-member, member-from, from-rising}
+use Rattle.automaton.proofs.Ranges.{from-rising}
+use Rattle.simulation.proofs.Ranges.{from-member, member-from}
 use Rattle.simulation.proofs.Preorder.{all-member}
 use Rattle.reduction.specs.Steps.{Stage, among, closure, buildable, productive, namesOnly, trimmed, below, equivalent, firstOf, representative}
 use Rattle.reduction.specs.Steps.{renamed, firsts, quotient, pruned, kept, restricted, position, numbered}

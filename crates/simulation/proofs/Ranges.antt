@@ -1,4 +1,4 @@
--- Ranges of numbers, and what is kept of them.
+-- Ranges of numbers: their members, and what is kept of them.
 use Prim.Native.Nat.{ℕ, zero, suc, _+_, _≤_, _<_}
 use native.Mathlib.Nat.{add-zero, add-suc, suc-add, zero-add}
 use native.Mathlib.Omega.{arith}
@@ -9,7 +9,7 @@ use mathlib.Core.Bool.{Bool, true, false, cond}
 use lib.ListN.{getD}
 use lib.Dec.{eqb}
 use borrow.Author.Tests.{eqb-true, eqb-false}
-use Rattle.automaton.specs.Lists.{All, none, also, Rising, empty, single, step, Distinct, bare, new, from, keep}
+use Rattle.automaton.specs.Lists.{All, none, also, Distinct, bare, new, from, keep}
 use Rattle.automaton.proofs.Elements.{all-map}
 use Rattle.automaton.proofs.StateSets.{elem, elem-above}
 
@@ -41,17 +41,6 @@ pub from-append : (i a b : ℕ) → from i (a + b) ≡ from i a ++ from (i + a) 
 unfolding from
 from-append i zero b = rw (zero-add, add-zero)
 from-append i (suc a) b = rw (suc-add, add-suc, ← suc-add) (ap (λ (l : List ℕ). i ∷ l) (from-append (suc i) a b))
-
-pub from-low : (i n k : ℕ) → i + n ≤ k → All (λ (q : ℕ). q < k) (from i n)
-unfolding from
-from-low i zero k h = none
-from-low i (suc n) k h = also {x = i} (omega arith) (from-low (suc i) n k (omega arith))
-
-pub from-rising : (i n : ℕ) → Rising (from i n)
-unfolding from
-from-rising i zero = empty
-from-rising i (suc zero) = single
-from-rising i (suc (suc n)) = step {a = i} {b = suc i} (omega arith) (from-rising (suc i) (suc n))
 
 pub keep-above : (test : ℕ → Bool) (i n : ℕ) → All (λ (j : ℕ). i ≤ j) (keep test (from i n))
 unfolding keep from

@@ -24,7 +24,8 @@ use Rattle.simulation.specs.Simulation.{Relation, related}
 use Rattle.simulation.specs.Query.{bitsFrom, rowBytes, relationRows}
 use Rattle.simulation.specs.Words.{statesIn, rowWords, rowsWords, relationWords}
 use Rattle.simulation.specs.Inner.{byteOf, bytesOf, onesOf}
-use Rattle.simulation.proofs.Ranges.{map-from-at, from-append, from-low, from-rising, keep-none, elem-keep}
+use Rattle.automaton.proofs.Ranges.{from-low, from-rising}
+use Rattle.simulation.proofs.Ranges.{map-from-at, from-append, keep-none, elem-keep}
 use Rattle.simulation.proofs.Pairs.{pairsIn}
 
 pub all-states-in : (n : ℕ) → n ≤ 256 → statesIn n (setOf (from 0 n)) ≡ from 0 n
