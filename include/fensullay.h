@@ -29,8 +29,8 @@
  *   1 to 13                       refused: the number of the cause, below
  *   FENSULLAY_SHORT_ARRAY (100)   the array for numbers or counts is too short; found before everything else
  *   FENSULLAY_NO (101)            no: not accepted, or not simulated
- * Refusals and SHORT_ARRAY leave `out` and `numbers` as they were, byte for byte. Of `counts` a check that refuses changes the third. After a result,
- * `out`, `numbers` and `counts` keep what they held. Tables and trees are never written.
+ * Refusals and SHORT_ARRAY leave `out` and `numbers` as they were, byte for byte. Of `counts` a check that refuses changes the third.
+ * Elements of `out`, `numbers` and `counts` after those that a call writes keep what they held. Tables and trees are never written.
  *
  * The table is judged before the tree, the state numbers and the output. In each record of a table the causes come in the order 1, 2, 7 (a rule too
  * many), 3 (length), 4, 5, 6; but a rule's symbol (5) comes before the comparison with its rank (3), and its states (5) after. Too few rules (7) is

@@ -18,7 +18,7 @@ static const uint8_t table[] = {
     10, 0, 0, 0, 4, 0, 2, 0, 4, 0, 4, 0, 0, 0  /* f(4,0) -> 4 */
 };
 
-/* A tree is one record of kind 16: the symbols of its nodes, each behind its children. */
+/* A tree is one record of kind 16: the symbols of its nodes, each after its children. */
 static const uint8_t tree_fba[] = {8, 0, 0, 0, 16, 0, 1, 0, 0, 0, 2, 0}; /* f(b,a) */
 static const uint8_t tree_a[] = {4, 0, 0, 0, 16, 0, 0, 0};               /* a */
 

@@ -86,6 +86,8 @@ withRule k body = encodeRecord 1 (fields (1 ∷ 1 ∷ k ∷ [])) ++ (encodeRecor
 pub record Order : Type 0 where
   -- 1 before 2: a record that is not whole, and of kind 2 where kind 1 is due.
   pub broken-before-kind : judge (9 ∷ 0 ∷ 0 ∷ 0 ∷ 2 ∷ 0 ∷ []) ≡ refused 1
+  -- 2 before 3: kind 2 where kind 1 is due, and a body of 8 bytes.
+  pub kind-before-length : judge (encodeRecord 2 (fields (0 ∷ 0 ∷ 0 ∷ 0 ∷ []))) ≡ refused 2
   -- 3 before 4 in the first record: a body of 8 bytes, and 257 states.
   pub length-before-counts : judge (encodeRecord 1 (fields (257 ∷ 0 ∷ 0 ∷ 0 ∷ []))) ≡ refused 3
   -- 3 before 4 in the second: two ranks for one symbol, and both are 9.
@@ -96,6 +98,9 @@ pub record Order : Type 0 where
   -- 5 before 6: final state 2 where n is 2, and state 1 after it.
   pub range-before-rising : judge
       (encodeRecord 1 (fields (2 ∷ 0 ∷ 0 ∷ [])) ++ (encodeRecord 2 [] ++ encodeRecord 3 (fields (2 ∷ 1 ∷ [])))) ≡ refused 5
+  -- 2 before 7: a record of kind 5 where k is 0.
+  pub kind-before-too-many : judge
+      (encodeRecord 1 (fields (0 ∷ 0 ∷ 0 ∷ [])) ++ (encodeRecord 2 [] ++ (encodeRecord 3 [] ++ encodeRecord 5 []))) ≡ refused 2
   -- 7 before 3: a rule where k is 0, and its body has 2 bytes.
   pub too-many-before-length : judge (withRule 0 (fields (0 ∷ []))) ≡ refused 7
   -- In a rule 3 before 5: a body of 2 bytes, and symbol 1 where m is 1.
@@ -112,10 +117,12 @@ unfolding judge judgeRanks judgeFinals judgeRules judgeRule due dueIn opened isW
     number2 number4 numbers encodeRecord fields bytes2 bytes4 all rising risingFrom check _>>=_ _>>_
 order = record {
   broken-before-kind = refl;
+  kind-before-length = refl;
   length-before-counts = refl;
   length-before-ranks = refl;
   ranks-before-later-length = refl;
   range-before-rising = refl;
+  kind-before-too-many = refl;
   too-many-before-length = refl;
   short-before-symbol = refl;
   symbol-before-length = refl;

@@ -50,7 +50,7 @@ rowsAfter (found A) old = rows (A .rules) ++ drop (10 * length (A .rules)) old
 rowsAfter (refused cause) old = old
 
 -- The automaton that such arrays hold: the final states in order, and rule i in the ten numbers from 10 i on. The zeros of `getD` are never
--- read: the arrays have 256 ranks and ten numbers for each of 1,024 rules.
+-- read: the arrays have 256 ranks and ten numbers for each of 1,024 rules, and the symbol of a rule of a well-formed table is below 256.
 unfoldable pub ruleAt : List ℕ → List ℕ → ℕ → Rule
 ruleAt ranks table i = record {
   symbol = getD table (10 * i) 0;

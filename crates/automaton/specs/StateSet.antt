@@ -6,7 +6,7 @@ use lib.ListN.{getD}
 use lib.Bits.{bitOr, bitXor}
 use lib.Dec.{eqb}
 
--- Whether state q is in the set. A set has four words and a state is below 256, so the word is there.
+-- Whether state q is in the set. A set has four words and a state is below 256, so the word is there, here and below.
 unfoldable pub member : List ℕ → ℕ → Bool
 member ws q = eqb (getD ws (q / 64) 0 / 2 ^ (q % 64) % 2) 1
 

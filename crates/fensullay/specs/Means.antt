@@ -17,8 +17,9 @@ UpToOr last other cause = UpTo last cause ⊎ (cause ≡ other)
 abbrev pub Just : ℕ → ℕ → Type 0
 Just one cause = cause ≡ one
 
--- The number that a call returns which needs some elements in an array and reads x: 0 where it found something, or found yes; x's refusal, by
--- one of the call's causes; 100 where the array has fewer elements; 101 where it found no. Each means that alone, and there are no others.
+-- What the number means that a call returns. The call needs some elements in an array, and reads x. It returns 0 where it found something, or
+-- found yes; x's refusal, by one of the call's causes; 100 where the array has fewer elements; 101 where it found no. Each means that alone, and
+-- there are no others.
 pub record Means {A : Type 0} (Cause : ℕ → Type 0) (need : ℕ) (array : List ℕ) (x : Read A) (Done No : Type 0) (code : ℕ) : Type 0 where
   pub done : (code ≡ 0) ↔ ((need ≤ length array) × Done)
   pub refusal : (cause : ℕ) → Cause cause → (code ≡ cause) ↔ ((need ≤ length array) × (x ≡ refused cause))

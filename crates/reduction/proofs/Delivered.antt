@@ -27,12 +27,10 @@ ranks-stay A = refl
 pub fixpoint-of : (A : Automaton) → WellFormed A → reduce (reduce A) ≡ reduce A
 fixpoint-of A w = irreducible-fixed (reduce A) (reduce-well-formed A w) (irreducible A w)
 
-pub reduction-answers : (table out : List ℕ) (A : Automaton) → ((i : ℕ) → getD table i 0 < 256) → judge table ≡ found A
-    → length table ≤ length out → (r : Reduction) × (reduction table out ≡ found r)
-reduction-answers table out A bytes e h =
-    let short = reduce-shorter A (judged-well-formed table A e) in
-    let own = ap length (encode-judged table A bytes e) in
-    (answerFor A, reduction-fits table out A e (omega arith))
+-- The reduced table has room wherever the table has.
+pub reduced-fits : (table : List ℕ) (A : Automaton) → ((i : ℕ) → getD table i 0 < 256) → judge table ≡ found A
+    → length (encode (reduce A)) ≤ length table
+reduced-fits table A bytes e = rw (encode-judged table A bytes e) at (reduce-shorter A (judged-well-formed table A e))
 
 again-from : (A : Automaton) → WellFormed A → (room : List ℕ) → length (encode (reduce A)) ≤ length room → Again (encode (reduce A)) room
 unfolding answerFor
@@ -70,7 +68,7 @@ demand-3-from table out A bytes e fits =
       old-rules = refl;
       new-rules = refl;
       rounds = refl;
-      no-longer = rw (encode-judged table A bytes e) at (reduce-shorter A w);
+      no-longer = reduced-fits table A bytes e;
       stays = after-fits table out A e fits;
       ranks = ranks-stay A;
       same-trees = λ t over. (accepted-reduced A w t, reduced-accepted A w t);

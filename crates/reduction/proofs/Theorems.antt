@@ -79,10 +79,10 @@ module _ (A : Automaton) (w : WellFormed A) where
       let s = and-true-out (related (below (trimmed A)) q r) (related (below (trimmed A)) r q) h in
       quot.representative-least (trimmed A) (trimming.trimmed-sound A w) q r m (s .0) (s .1)
 
-  pub groups-below : (p q r s : ℕ) → equivalent (below (trimmed A)) p q ≡ true → equivalent (below (trimmed A)) r s ≡ true
+  pub blocks-below : (p q r s : ℕ) → equivalent (below (trimmed A)) p q ≡ true → equivalent (below (trimmed A)) r s ≡ true
       → related (below (trimmed A)) p r ≡ true → related (below (trimmed A)) q s ≡ true
   unfolding equivalent
-  groups-below p q r s e f h =
+  blocks-below p q r s e f h =
       let through = quot.below-transitive (trimmed A) (trimming.trimmed-sound A w) in
       let a = and-true-out (related (below (trimmed A)) p q) (related (below (trimmed A)) q p) e in
       let b = and-true-out (related (below (trimmed A)) r s) (related (below (trimmed A)) s r) f in
@@ -130,10 +130,21 @@ module _ (A : Automaton) (w : WellFormed A) where
   pub reduced-again : reduce (reduce A) ≡ reduce A
   reduced-again = delivered.fixpoint-of A w
 
--- Of bytes. A well-formed table is answered wherever the output is as long as it.
-pub reduction-answers : (table out : List ℕ) (A : Automaton) → ((i : ℕ) → getD table i 0 < 256) → judge table ≡ found A
-    → length table ≤ length out → (r : Reduction) × (reduction table out ≡ found r)
-reduction-answers = delivered.reduction-answers
+-- Of bytes. A well-formed table is answered wherever the output has room for the reduced one, as every output as long as the table has.
+module _ (table : List ℕ) (A : Automaton) (judged : judge table ≡ found A) where
+  pub reduction-answers : (out : List ℕ) → length (encode (reduce A)) ≤ length out → reduction table out ≡ found (record {
+    length = length (encode (reduce A));
+    «old_states» = A .states;
+    «new_states» = reduce A .states;
+    «old_rules» = length (A .rules);
+    «new_rules» = length (reduce A .rules);
+    rounds = reductionRounds A;
+  })
+  unfolding rewritten.answerFor
+  reduction-answers out = rewritten.reduction-fits table out A judged
+
+  pub reduced-fits : ((i : ℕ) → getD table i 0 < 256) → length (encode (reduce A)) ≤ length table
+  reduced-fits bytes = delivered.reduced-fits table A bytes judged
 
 -- A refusal is by one of the table's causes, 1 to 7, or by 13.
 pub reduction-causes : (table out : List ℕ) (cause : ℕ) → reduction table out ≡ refused cause
@@ -162,6 +173,6 @@ module _ (table out : List ℕ) (r : Reduction) (bytes : List ℕ) (d : Demand3 
     h .counts-after ∙ same-counts ∙ sym (k .counts-after),
   )
 
--- The report's numbers: the digits of v read back give v, and none stands before them that is 0.
+-- The report's numbers: the digits of v read back give v, and the first is 0 only if it is the only one.
 pub decimal-numeral : (v : ℕ) → Numeral v (decimal v)
 decimal-numeral = digits.decimal-numeral

@@ -32,7 +32,8 @@ pub record Demand3 (table out : List ℕ) (r : Reduction) (bytes : List ℕ) : T
   pub reduced : Automaton
   pub is-first : judge table ≡ found first
   pub is-reduced : judge bytes ≡ found reduced
-  -- The answer's numbers are theirs; the length never exceeds the table's, and what stood after the bytes stays.
+  -- The answer's numbers are theirs; the length never exceeds the table's. In the output, which the call promises to be `reductionAfter`, what
+  -- stood after the bytes stays.
   pub length-is : length bytes ≡ r .length
   pub old-states : r .«old_states» ≡ first .states
   pub new-states : r .«new_states» ≡ reduced .states

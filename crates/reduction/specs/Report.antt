@@ -19,8 +19,8 @@ decimalIn (suc digits) v = cond (ltb v 10) ((48 + v) ∷ []) (decimalIn digits (
 unfoldable pub decimal : ℕ → List ℕ
 decimal v = decimalIn (suc v) v
 
--- What "in decimal without leading zeros" means: digits, bytes 48 to 57, at least one, that stand for v, and no zero in front of another. The
--- theorem `decimal-numeral` says it of `decimal`.
+-- What "in decimal without leading zeros" means: digits, bytes 48 to 57, at least one, that stand for v; the first is zero only if it is the
+-- only one. The theorem `decimal-numeral` says it of `decimal`.
 unfoldable pub valueFrom : ℕ → List ℕ → ℕ
 valueFrom high [] = high
 valueFrom high (d ∷ ds) = valueFrom (10 * high + (d - 48)) ds

@@ -1,16 +1,21 @@
--- The order of the causes of trees and queries: each example has two causes at once, and the one that document 01 puts first is returned.
+-- The order of the causes of trees and queries: each example has two causes at once, and the one that document 01 puts first is returned. And
+-- that final states play no part in ≤.
 use Prim.Native.Nat.{ℕ}
 use mathlib.Core.Path.{_≡_, refl}
 use mathlib.Core.List.{List, [], _∷_, _++_}
 use lib.ListN.{replicate}
-use Rattle.automaton.specs.Lists.{all, rising, risingFrom}
+use mathlib.Core.Bool.{true}
+use Rattle.automaton.specs.Lists.{all, rising, risingFrom, from, keep}
 use Rattle.automaton.specs.Bytes.{number2, number4, numbers, bytes2, bytes4, fields}
 use Rattle.automaton.specs.Record.{endOf, isWhole, opened, bodyIn, bodyOf, encodeRecord}
-use Rattle.automaton.specs.Read.{refused, _>>=_, _>>_, check}
-use Rattle.automaton.specs.Table.{dueIn, due, judgeRules, judgeFinals, judgeRanks, judge}
+use Rattle.automaton.specs.Read.{found, refused, _>>=_, _>>_, check}
+use Rattle.automaton.specs.Table.{dueIn, due, ruleIn, judgeRule, judgeRules, judgeFinals, judgeRanks, judge}
 use Rattle.simulation.specs.Postfix.{treesIn, push, pushAll, single, isTreeRecord, judgeTree}
 use Rattle.simulation.specs.Check.{acceptance}
-use Rattle.simulation.specs.Query.{relationQuery, pairQuery}
+use Rattle.simulation.specs.Tree.{any}
+use Rattle.simulation.specs.Simulation.{related, paired, matchedBy, matched, every, survives, refine}
+use Rattle.simulation.specs.Simulation.{allPairs, relationAt, settle, rounds, relation}
+use Rattle.simulation.specs.Query.{simulationOf, relationQuery, pairQuery}
 
 -- Symbols a, b and f of ranks 0, 0 and 2; symbol 3 is unknown.
 abbrev pub ranks : List ℕ
@@ -70,3 +75,18 @@ order = record {
   table-before-states = refl;
   table-before-output = refl;
 }
+
+-- a → 0 and a → 1, and 0 alone is final: still 0 ≤ 1.
+abbrev pub oneFinal : List ℕ
+oneFinal =
+    encodeRecord 1 (fields (2 ∷ 1 ∷ 2 ∷ []))
+    ++ (encodeRecord 2 (0 ∷ [])
+    ++ (encodeRecord 3 (fields (0 ∷ []))
+    ++ (encodeRecord 4 (fields (0 ∷ 0 ∷ []))
+    ++ encodeRecord 4 (fields (0 ∷ 1 ∷ [])))))
+
+pub final-below-other : pairQuery oneFinal 0 1 ≡ found true
+unfolding pairQuery simulationOf relation relationAt rounds settle allPairs refine keep survives matched every matchedBy paired related any from
+    judge judgeRanks judgeFinals judgeRules judgeRule ruleIn due dueIn opened isWhole endOf bodyOf bodyIn number2 number4 numbers
+    encodeRecord bytes2 bytes4 fields all rising risingFrom check _>>=_ _>>_
+final-below-other = refl

@@ -1,5 +1,6 @@
 -- What the contracts of inner functions and of those exported for the crates above (`simulate`, `is_matched_by`, `chain_rules`, `differ`,
--- `all_in`) cite; no call for everybody cites any of it.
+-- `all_in`) cite; no call for everybody cites any of it. Places that an array does not have, where `getD` would give its default, are
+-- ruled out by the bounds in the contracts that cite these.
 use Prim.Native.Nat.{ℕ, zero, suc, _+_, _*_, _/_, _%_, _^_, _≤_, _<_}
 use mathlib.Core.Path.{_≡_}
 use mathlib.Core.List.{List, [], _∷_, map, List·Memᴰ}
@@ -25,7 +26,7 @@ pub record RowRanged (ranks rows : List ℕ) (i : ℕ) : Type 0 where
   pub rank : getD ranks (getD rows (10 * i) 0) 0 ≤ 8
   pub states : (j : ℕ) → j < 1 + getD ranks (getD rows (10 * i) 0) 0 → getD rows (10 * i + 1 + j) 0 < 256
 
--- The numbers of the rules below k, from i on, that have a key in a column of their rows.
+-- The numbers of those of the n rules from i on that have a key in a column of their rows.
 unfoldable pub keyed : List ℕ → ℕ → ℕ → ℕ → ℕ → List ℕ
 keyed rows column key i n = keep (λ (j : ℕ). eqb (getD rows (10 * j + column) 0) key) (from i n)
 
