@@ -1,5 +1,7 @@
 pub use fensullay::sys::{NO, OK, SHORT};
 
+use checker::Refusal;
+
 use crate::Lent;
 
 pub const ROOM: u32 = 13;
@@ -29,4 +31,23 @@ pub trait Library {
     fn reduce(&self, table: &mut Lent<u8>, out: &mut Lent<u8>, numbers: &mut Lent<usize>) -> u32;
 
     fn report(&self, input: &mut Lent<u8>, out: &mut Lent<u8>, numbers: &mut Lent<usize>) -> u32;
+}
+
+/// What a call answers, its values at the start of `numbers`.
+pub fn answer<const N: usize>(
+    numbers: &mut Lent<usize>,
+    call: impl FnOnce() -> Result<[usize; N], Refusal>,
+) -> u32 {
+    let Some(place) = numbers.content_mut().first_chunk_mut() else { return SHORT };
+    match call() {
+        Ok(values) => {
+            *place = values;
+            OK
+        }
+        Err(refusal) => number(refusal),
+    }
+}
+
+pub fn number(refusal: Refusal) -> u32 {
+    refusal.number().into()
 }

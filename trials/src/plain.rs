@@ -1,6 +1,6 @@
 use checker::{Answer, Automaton, Counts, Pair, Reduced, Refusal, Simulation};
 
-use crate::library::{NO, OK, SHORT};
+use crate::library::{NO, OK, SHORT, answer, number};
 use crate::{Lent, Library};
 
 /// The checker, behind the same calls.
@@ -67,27 +67,8 @@ impl Library for Plain {
     }
 }
 
-/// What a call answers, its values at the start of `numbers`.
-fn answer<const N: usize>(
-    numbers: &mut Lent<usize>,
-    call: impl FnOnce() -> Result<[usize; N], Refusal>,
-) -> u32 {
-    let Some(place) = numbers.content_mut().first_chunk_mut() else { return SHORT };
-    match call() {
-        Ok(values) => {
-            *place = values;
-            OK
-        }
-        Err(refusal) => number(refusal),
-    }
-}
-
 fn pair(table: &[u8], q: usize, r: usize) -> Result<Pair, Refusal> {
     let automaton = Automaton::read(table)?;
     let state = |number: usize| u16::try_from(number).map_err(|_| Refusal::UnknownState);
     Simulation::of(&automaton).pair(state(q)?, state(r)?)
-}
-
-fn number(refusal: Refusal) -> u32 {
-    refusal.number().into()
 }

@@ -40,20 +40,6 @@ pub fn bench_table() -> Automaton {
     Automaton { states: 5, ranks: vec![0, 0, 2], finals: vec![3], rules: rules.into() }
 }
 
-/// Four rules for each state q: those of state 0 a leaf, the others of one
-/// symbol, child p of rule v being (q - 1)(v + p + 1) / (v + p + 2) rounded
-/// down. All states are final.
-pub fn grown(states: u16, rank: u16) -> Automaton {
-    let mut rules = vec![Rule::new(0, 0, &[]); 4];
-    for (q, v) in (1..states).flat_map(|q| (0..4).map(move |v| (q, v))) {
-        let child = |p: u16| (q - 1) * (v + p + 1) / (v + p + 2);
-        let children: Vec<u16> = (0..rank).map(child).collect();
-        rules.push(Rule::new(1, q, &children));
-    }
-    let ranks = vec![0, rank as u8];
-    Automaton { states: states.into(), ranks, finals: (0..states).collect(), rules }
-}
-
 /// A chain from a leaf to the final state: each round tells one more state
 /// apart.
 pub fn chain(states: u16) -> Automaton {

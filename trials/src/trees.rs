@@ -110,7 +110,9 @@ fn of_rank(ranks: &[u8], rank: u8) -> impl Iterator<Item = u16> {
     (0..).zip(ranks).filter(move |&(_, &other)| other == rank).map(|(symbol, _)| symbol)
 }
 
-fn smallest(automaton: &Automaton) -> Vec<Option<(usize, &Rule)>> {
+/// For each state the number of nodes of its smallest tree, and the rule at its
+/// top.
+pub fn smallest(automaton: &Automaton) -> Vec<Option<(usize, &Rule)>> {
     let mut smallest: Vec<Option<(usize, &Rule)>> = vec![None; automaton.states];
     loop {
         let mut changed = false;

@@ -3,7 +3,7 @@
 mod faulty;
 
 use faulty::{Fault, Faulty};
-use trials::{Call, Case, Kind, Tally, draw, run, shrink};
+use trials::{Call, Case, Kind, Library, Tally, draw, run, shrink};
 
 const SEED: u64 = 1;
 
@@ -125,9 +125,19 @@ fn the_checker_agrees_with_itself_and_gives_every_answer() {
 
 #[test]
 fn the_proved_library_agrees() {
+    agrees(&trials::Proved, 500);
+}
+
+#[test]
+fn the_swift_library_agrees() {
+    agrees(&trials::Swift, 10_000);
+}
+
+/// A library does what the checker does on so many cases.
+fn agrees(library: &dyn Library, cases: u64) {
     let mut tally = Tally::default();
-    for number in 0..500 {
-        let found = run(&trials::Proved, &draw(SEED, number), &mut tally);
+    for number in 0..cases {
+        let found = run(library, &draw(SEED, number), &mut tally);
         assert!(found.is_ok(), "case {number}: {}", found.unwrap_err());
     }
 }

@@ -1,15 +1,13 @@
 -- What a call's answer says once the code has taken it apart: of any call, and of `open` where it finds no record.
 use native.Mathlib.Omega.{arith}
 use Prim.Native.Nat.{ℕ}
-use mathlib.Core.Path.{_≡_, refl, sym, ap, _∙_}
+use mathlib.Core.Path.{_≡_, sym, ap, _∙_}
 use mathlib.Core.Logic.{⊎-elim}
 use mathlib.Core.List.{List, [], _∷_}
 use types.Run.{OneOf}
-use lib.ListN.{length}
 use denote.Enum.Declared.{tagOf}
 use Rattle.automaton.specs.Record.{nothing, opened, bodyIn, bodyOf}
 use Rattle.automaton.specs.Answers.{openingOf}
-use Rattle.automaton.specs.Inner.{endIn, firstEnd}
 use Rattle.automaton.specs.declared.record.Opened.{Opened}
 use Rattle.automaton.specs.declared.record.Opened.the-variants.{Record, End, Refused}
 use Rattle.automaton.proofs.record.Opened.{the-type}
@@ -23,11 +21,11 @@ not-record : OneOf (1 ∷ 2 ∷ []) 0 → ⊥
 not-record t = ⊎-elim (λ h. omega arith) (λ h. omega arith) t
 
 pub none-opens : (b : List ℕ) (o : Opened) → openingOf o ≡ opened b → OneOf (1 ∷ 2 ∷ []) (tagOf the-type o)
-    → ([] ≡ bodyOf b) × (length b ≡ firstEnd b)
-unfolding openingOf bodyOf bodyIn firstEnd endIn
+    → [] ≡ bodyOf b
+unfolding openingOf bodyOf bodyIn
 none-opens b (Record kind end) e t = absurd (not-record t)
-none-opens b End e t = rw (← e) (refl, refl)
-none-opens b (Refused cause) e t = rw (← e) (refl, refl)
+none-opens b End e t = rw (← e)
+none-opens b (Refused cause) e t = rw (← e)
 
 pub nothing-left : (b : List ℕ) (o : Opened) → openingOf o ≡ opened b → OneOf (1 ∷ 2 ∷ []) (tagOf the-type o)
     → OneOf (0 ∷ 1 ∷ []) (tagOf the-type o) → opened b ≡ nothing

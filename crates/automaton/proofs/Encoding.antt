@@ -18,7 +18,7 @@ use Rattle.automaton.proofs.Fields.{first-field, drop-field, drop-two-f
 use Rattle.automaton.proofs.Records.{length-record-more, bytes-record, bytes-body}
 use Rattle.automaton.proofs.Records.{record-opens, record-body, record-behind, record-encoded}
 use Rattle.automaton.proofs.Inversion.{RuleFound, rule-found, no-rules-found, rules-found, finals-found}
-use Rattle.automaton.proofs.Inversion.{ranks-found, table-found, judge-sized, judge-parts}
+use Rattle.automaton.proofs.Inversion.{ranks-found, table-found, judge-sized}
 use Rattle.automaton.proofs.Inversion.{rule-finds, rules-finds, finals-finds, ranks-finds, table-finds}
 
 -- What is judged is well-formed.
@@ -54,11 +54,11 @@ judge-well-formed b A h =
     record {
       states = omega arith;
       symbols = omega arith;
-      ranks = rw (f .table) (r .small);
-      finals = rw (f .table) (f .states);
-      rising = rw (f .table) (f .rises);
+      ranks = rw (f .table) (r .first .small);
+      finals = rw (f .table) (f .first .states);
+      rising = rw (f .table) (f .first .rises);
       count = omega arith;
-      rules = rules-well-formed A (length (A .rules)) _ (judge-parts b h .rules);
+      rules = rw (f .table) (rules-well-formed _ _ _ (f .others));
     }
 
 -- What is judged encodes to its bytes.
@@ -105,10 +105,10 @@ encode-judge b A h e =
     ap (λ (X : Automaton). encodeRules (X .rules)) (f .table)
     ∙ rules-encoded _ _ _ (drop (f .end) b₂) (bytes-drop (f .end) b₂ h₂) (f .others) in
     let in-finals : encodeRecord 3 (fields (A .finals)) ++ encodeRules (A .rules) ≡ b₂ =
-    fields-encoded b₂ _ _ (f .opens) h₂ (f .even) (ap (λ (X : Automaton). X .finals) (f .table)) in-rules in
+    fields-encoded b₂ _ _ (f .first .opens) h₂ (f .first .even) (ap (λ (X : Automaton). X .finals) (f .table)) in-rules in
     let in-ranks : encodeRecord 2 (A .ranks) ++ (encodeRecord 3 (fields (A .finals)) ++ encodeRules (A .rules)) ≡ b₁ =
-    body-encoded b₁ _ _ (r .opens) h₁ (ap (λ (X : Automaton). X .ranks) (f .table)) in-finals in
-    fields-encoded b _ _ (t .opens) h (omega arith) (cc (three-numbers (bodyOf b) (t .size))) in-ranks
+    body-encoded b₁ _ _ (r .first .opens) h₁ (ap (λ (X : Automaton). X .ranks) (f .table)) in-finals in
+    fields-encoded b _ _ (t .first .opens) h (omega arith) (cc (three-numbers (bodyOf b) (t .first .size))) in-ranks
 
 -- How long the lists of a well-formed automaton are.
 
@@ -181,10 +181,12 @@ module _ (A : Automaton) (w : WellFormed A) where
       ap numbers same ∙ states-read _ (w .states) (w .finals) in
       finals-finds _ _ _ (encodeRecord 3 body ++ more) (record {
         end = 6 + length body;
-        opens = record-opens 3 body more short (omega arith);
-        even = rw (same, length-fields) (omega arith);
-        states = rw read (w .finals);
-        rises = rw read (w .rising);
+        first = record {
+          opens = record-opens 3 body more short (omega arith);
+          even = rw (same, length-fields) (omega arith);
+          states = rw read (w .finals);
+          rises = rw read (w .rising);
+        };
         rules = A .rules;
         others = rw (record-behind 3 body more) (rules-judged A w (w .rules));
         table = rw read;
@@ -200,9 +202,11 @@ module _ (A : Automaton) (w : WellFormed A) where
       record-body 2 (A .ranks) more short (omega arith) in
       ranks-finds _ _ _ (encodeRecord 2 (A .ranks) ++ more) (record {
         end = 6 + length (A .ranks);
-        opens = record-opens 2 (A .ranks) more short (omega arith);
-        count = ap length same;
-        small = rw same (w .ranks);
+        first = record {
+          opens = record-opens 2 (A .ranks) more short (omega arith);
+          count = ap length same;
+          small = rw same (w .ranks);
+        };
         others = rw (same, record-behind 2 (A .ranks) more) finals-judged;
       })
 
@@ -220,11 +224,13 @@ judge-encode A w =
     rw (same, drop-two-fields) (first-field _ _ (omega arith)) in
     table-finds (encodeRecord 1 body ++ more) (record {
       end = 6 + length body;
-      opens = record-opens 1 body more short (omega arith);
-      size = ap length same ∙ length-fields _;
-      states = omega arith;
-      symbols = omega arith;
-      count = omega arith;
+      first = record {
+        opens = record-opens 1 body more short (omega arith);
+        size = ap length same ∙ length-fields _;
+        states = omega arith;
+        symbols = omega arith;
+        count = omega arith;
+      };
       others = rw (states, symbols, count, record-behind 1 body more) (ranks-judged A w);
     })
 

@@ -1,5 +1,5 @@
 -- What a judge that finds something has checked (`-found`): every step before a `found` has passed, and each test is a fact.
--- The other way round (`-finds`): where the facts hold, it finds. A table's counts (`Sized`), and where its parts stand (`Parts`).
+-- The other way round (`-finds`): where the facts hold, it finds. A table's parts one after the other (`-split`), its counts (`Sized`).
 use Prim.Native.Nat.{ℕ, zero, suc, _+_, _*_, _%_, _≤_, _<_}
 use native.Mathlib.Omega.{arith}
 use mathlib.Core.Path.{_≡_, refl, sym, ap, _∙_}
@@ -14,9 +14,8 @@ use Rattle.automaton.specs.Record as records
 use Rattle.automaton.specs.Record.{Opening, whole, nothing, opened, bodyOf}
 use Rattle.automaton.specs.Automaton.{Rule, Automaton}
 use Rattle.automaton.specs.Read.{Read, found, refused, _>>=_, _>>_, check}
-use Rattle.automaton.proofs.Opening.{rest-behind}
 use Rattle.automaton.specs.Table.{dueIn, due, ruleIn, judgeRule, judgeRules, judgeFinals, judgeRanks, judge}
-use Rattle.automaton.specs.Inner.{restOf}
+use Rattle.automaton.specs.Inner.{sizeEnd, ranksEnd, finalsEnd}
 
 -- Steps.
 
@@ -29,7 +28,7 @@ unfolding _>>=_
 bind-found (found a) f h = (a, refl, h)
 bind-found (refused cause) f h = absurd (refused≢found h)
 
-then-found :
+pub then-found :
     {A B : Type 0} (x : Read A) (y : Read B) {z : B} → x >> y ≡ found z → (a : A) × (x ≡ found a) × (y ≡ found z)
 unfolding _>>_
 then-found (found a) y h = (a, refl, h)
@@ -45,7 +44,7 @@ pub checked :
     {B : Type 0} (t : Bool) (cause : ℕ) (y : Read B) {z : B} → check t cause >> y ≡ found z → (t ≡ true) × (y ≡ found z)
 checked t cause y h = let s = then-found (check t cause) y h in (check-found t cause (s .1), s .2)
 
-found-same : {A : Type 0} {a b : A} → found a ≡ found b → a ≡ b
+pub found-same : {A : Type 0} {a b : A} → found a ≡ found b → a ≡ b
 found-same h = cc
 
 -- The next record.
@@ -103,6 +102,37 @@ all-below n = all→All (λ (q : ℕ). ltb q n) (λ (q : ℕ). q < n) (λ q. ltb
 below-all : (n : ℕ) {xs : List ℕ} → All (λ (q : ℕ). q < n) xs → all (λ (q : ℕ). ltb q n) xs ≡ true
 below-all n = All→all (λ (q : ℕ). ltb q n) (λ (q : ℕ). q < n) (λ q. lt-ltb q n)
 
+-- A table's parts: the first record by itself, and then what is after it.
+
+bind-bind : {A B C : Type 0} (x : Read A) (f : A → Read B) (g : B → Read C) → x >>= f >>= g ≡ x >>= (λ (a : A). f a >>= g)
+unfolding _>>=_
+bind-bind (found a) f g = refl
+bind-bind (refused cause) f g = refl
+
+then-bind : {A B C : Type 0} (x : Read A) (y : Read B) (g : B → Read C) → x >> y >>= g ≡ x >> (y >>= g)
+unfolding _>>=_ _>>_
+then-bind (found a) y g = refl
+then-bind (refused cause) y g = refl
+
+pub judge-split : (b : List ℕ) → judge b ≡ sizeEnd b >>= (λ (end : ℕ).
+    judgeRanks (number2 (bodyOf b)) (number2 (drop 2 (bodyOf b))) (number2 (drop 4 (bodyOf b))) (drop end b))
+unfolding judge sizeEnd _>>=_
+judge-split b = simp (bind-bind, then-bind)
+
+pub ranks-split : (n m k : ℕ) (b : List ℕ)
+    → judgeRanks n m k b ≡ ranksEnd m b >>= (λ (end : ℕ). judgeFinals n (bodyOf b) k (drop end b))
+unfolding judgeRanks ranksEnd _>>=_
+ranks-split n m k b = simp (bind-bind, then-bind)
+
+-- A table with its rules still to come.
+abbrev pub tableWith : ℕ → List ℕ → List ℕ → List Rule → Automaton
+tableWith n ranks finals rules = record { states = n; ranks = ranks; finals = finals; rules = rules }
+
+pub finals-split : (n : ℕ) (ranks : List ℕ) (k : ℕ) (b : List ℕ) → judgeFinals n ranks k b ≡ finalsEnd n b >>= (λ (end : ℕ).
+    judgeRules n ranks k (drop end b) >>= (λ (rules : List Rule). found (tableWith n ranks (numbers (bodyOf b)) rules)))
+unfolding judgeFinals finalsEnd _>>=_
+finals-split n ranks k b = simp (bind-bind, then-bind)
+
 -- What each judge has checked.
 
 pub record RuleFound (n : ℕ) (ranks body : List ℕ) (u : Rule) : Type 0 where
@@ -125,30 +155,39 @@ pub record RulesFound (n : ℕ) (ranks : List ℕ) (k : ℕ) (b : List ℕ) (us 
   pub others : judgeRules n ranks k (drop end b) ≡ found rest
   pub rules : us ≡ rule ∷ rest
 
-pub record FinalsFound (n : ℕ) (ranks : List ℕ) (k : ℕ) (b : List ℕ) (A : Automaton) : Type 0 where
-  pub end : ℕ
+pub record FinalsEnd (n : ℕ) (b : List ℕ) (end : ℕ) : Type 0 where
   pub opens : opened b ≡ whole 3 end
   pub even : length (bodyOf b) % 2 ≡ 0
   pub states : All (λ (q : ℕ). q < n) (numbers (bodyOf b))
   pub rises : Rising (numbers (bodyOf b))
+
+pub record FinalsFound (n : ℕ) (ranks : List ℕ) (k : ℕ) (b : List ℕ) (A : Automaton) : Type 0 where
+  pub end : ℕ
+  pub first : FinalsEnd n b end
   pub rules : List Rule
   pub others : judgeRules n ranks k (drop end b) ≡ found rules
-  pub table : A ≡ record { states = n; ranks = ranks; finals = numbers (bodyOf b); rules = rules }
+  pub table : A ≡ tableWith n ranks (numbers (bodyOf b)) rules
 
-pub record RanksFound (n m k : ℕ) (b : List ℕ) (A : Automaton) : Type 0 where
-  pub end : ℕ
+pub record RanksEnd (m : ℕ) (b : List ℕ) (end : ℕ) : Type 0 where
   pub opens : opened b ≡ whole 2 end
   pub count : length (bodyOf b) ≡ m
   pub small : All (λ (r : ℕ). r ≤ 8) (bodyOf b)
+
+pub record RanksFound (n m k : ℕ) (b : List ℕ) (A : Automaton) : Type 0 where
+  pub end : ℕ
+  pub first : RanksEnd m b end
   pub others : judgeFinals n (bodyOf b) k (drop end b) ≡ found A
 
-pub record TableFound (b : List ℕ) (A : Automaton) : Type 0 where
-  pub end : ℕ
+pub record SizeEnd (b : List ℕ) (end : ℕ) : Type 0 where
   pub opens : opened b ≡ whole 1 end
   pub size : length (bodyOf b) ≡ 6
   pub states : number2 (bodyOf b) ≤ 256
   pub symbols : number2 (drop 2 (bodyOf b)) ≤ 256
   pub count : number2 (drop 4 (bodyOf b)) ≤ 1024
+
+pub record TableFound (b : List ℕ) (A : Automaton) : Type 0 where
+  pub end : ℕ
+  pub first : SizeEnd b end
   pub others :
       judgeRanks (number2 (bodyOf b)) (number2 (drop 2 (bodyOf b))) (number2 (drop 4 (bodyOf b))) (drop end b) ≡ found A
 
@@ -190,56 +229,70 @@ module _ (n : ℕ) (ranks : List ℕ) where
         rules = sym (found-same (c₃ .2));
       }
 
-  pub finals-found : (k : ℕ) (b : List ℕ) {A : Automaton} → judgeFinals n ranks k b ≡ found A → FinalsFound n ranks k b A
-  unfolding judgeFinals
-  finals-found k b h =
-      let c₁ = bind-found _ _ h in
-      let c₂ = checked _ _ _ (c₁ .2) in
-      let c₃ = checked _ _ _ (c₂ .1) in
-      let c₄ = checked _ _ _ (c₃ .1) in
-      let c₅ = bind-found _ _ (c₄ .1) in
-      record {
-        end = c₁ .0;
-        opens = due-found 3 2 b (c₁ .1);
-        even = eqb-true _ _ (c₂ .0);
-        states = all-below _ _ (c₃ .0);
-        rises = rising→Rising _ (c₄ .0);
-        rules = c₅ .0;
-        others = c₅ .1;
-        table = sym (found-same (c₅ .2));
-      }
+pub finals-end-found : (n : ℕ) (b : List ℕ) {end : ℕ} → finalsEnd n b ≡ found end → FinalsEnd n b end
+unfolding finalsEnd
+finals-end-found n b h =
+    let c₁ = bind-found _ _ h in
+    let c₂ = checked _ _ _ (c₁ .2) in
+    let c₃ = checked _ _ _ (c₂ .1) in
+    let c₄ = checked _ _ _ (c₃ .1) in
+    record {
+      opens = due-found 3 2 b (rw (found-same (c₄ .1)) at (c₁ .1));
+      even = eqb-true _ _ (c₂ .0);
+      states = all-below _ _ (c₃ .0);
+      rises = rising→Rising _ (c₄ .0);
+    }
 
-pub ranks-found : (n m k : ℕ) (b : List ℕ) {A : Automaton} → judgeRanks n m k b ≡ found A → RanksFound n m k b A
-unfolding judgeRanks
-ranks-found n m k b h =
+pub finals-found : (n : ℕ) (ranks : List ℕ) (k : ℕ) (b : List ℕ) {A : Automaton} → judgeFinals n ranks k b ≡ found A
+    → FinalsFound n ranks k b A
+finals-found n ranks k b h =
+    let c₁ = bind-found (finalsEnd n b) _ (rw finals-split at h) in
+    let c₂ = bind-found _ _ (c₁ .2) in
+    record {
+      end = c₁ .0;
+      first = finals-end-found n b (c₁ .1);
+      rules = c₂ .0;
+      others = c₂ .1;
+      table = sym (found-same (c₂ .2));
+    }
+
+pub ranks-end-found : (m : ℕ) (b : List ℕ) {end : ℕ} → ranksEnd m b ≡ found end → RanksEnd m b end
+unfolding ranksEnd
+ranks-end-found m b h =
     let c₁ = bind-found _ _ h in
     let c₂ = checked _ _ _ (c₁ .2) in
     let c₃ = checked _ _ _ (c₂ .1) in
     record {
-      end = c₁ .0;
-      opens = due-found 2 2 b (c₁ .1);
+      opens = due-found 2 2 b (rw (found-same (c₃ .1)) at (c₁ .1));
       count = eqb-true _ _ (c₂ .0);
       small = all→All (λ (r : ℕ). leb r 8) (λ (r : ℕ). r ≤ 8) (λ r. leb-true r 8) _ (c₃ .0);
-      others = c₃ .1;
     }
 
-pub table-found : (b : List ℕ) {A : Automaton} → judge b ≡ found A → TableFound b A
-unfolding judge
-table-found b h =
+pub ranks-found : (n m k : ℕ) (b : List ℕ) {A : Automaton} → judgeRanks n m k b ≡ found A → RanksFound n m k b A
+ranks-found n m k b h =
+    let c = bind-found (ranksEnd m b) _ (rw ranks-split at h) in
+    record { end = c .0; first = ranks-end-found m b (c .1); others = c .2 }
+
+pub size-end-found : (b : List ℕ) {end : ℕ} → sizeEnd b ≡ found end → SizeEnd b end
+unfolding sizeEnd
+size-end-found b h =
     let c₁ = bind-found _ _ h in
     let c₂ = checked _ _ _ (c₁ .2) in
     let c₃ = checked _ _ _ (c₂ .1) in
     let c₄ = checked _ _ _ (c₃ .1) in
     let c₅ = checked _ _ _ (c₄ .1) in
     record {
-      end = c₁ .0;
-      opens = due-found 1 2 b (c₁ .1);
+      opens = due-found 1 2 b (rw (found-same (c₅ .1)) at (c₁ .1));
       size = eqb-true _ _ (c₂ .0);
       states = leb-true _ _ (c₃ .0);
       symbols = leb-true _ _ (c₄ .0);
       count = leb-true _ _ (c₅ .0);
-      others = c₅ .1;
     }
+
+pub table-found : (b : List ℕ) {A : Automaton} → judge b ≡ found A → TableFound b A
+table-found b h =
+    let c = bind-found (sizeEnd b) _ (rw judge-split at h) in
+    record { end = c .0; first = size-end-found b (c .1); others = c .2 }
 
 -- The other way round: where the facts hold, the judge finds.
 
@@ -259,29 +312,33 @@ module _ (n : ℕ) (ranks : List ℕ) where
   unfolding judgeRules _>>=_
   rules-finds k b r = rw (due-finds 4 7 b (r .opens), r .first, r .others) (ap found (sym (r .rules)))
 
-  pub finals-finds : (k : ℕ) (b : List ℕ) {A : Automaton} → FinalsFound n ranks k b A → judgeFinals n ranks k b ≡ found A
-  unfolding judgeFinals check _>>_ _>>=_
-  finals-finds k b r =
-      rw (due-finds 3 2 b (r .opens), eq-eqb _ _ (r .even), below-all n (r .states), Rising→rising (r .rises), r .others)
-      (ap found (sym (r .table)))
+pub finals-finds : (n : ℕ) (ranks : List ℕ) (k : ℕ) (b : List ℕ) {A : Automaton} → FinalsFound n ranks k b A
+    → judgeFinals n ranks k b ≡ found A
+unfolding judgeFinals check _>>_ _>>=_
+finals-finds n ranks k b r =
+    let f = r .first in
+    rw (due-finds 3 2 b (f .opens), eq-eqb _ _ (f .even), below-all n (f .states), Rising→rising (f .rises), r .others)
+    (ap found (sym (r .table)))
 
 pub ranks-finds : (n m k : ℕ) (b : List ℕ) {A : Automaton} → RanksFound n m k b A → judgeRanks n m k b ≡ found A
 unfolding judgeRanks check _>>_ _>>=_
 ranks-finds n m k b r =
-    let small = All→all (λ (x : ℕ). leb x 8) (λ (x : ℕ). x ≤ 8) (λ x. le-leb x 8) (r .small) in
-    rw (due-finds 2 2 b (r .opens), eq-eqb _ _ (r .count), small, r .others)
+    let f = r .first in
+    let small = All→all (λ (x : ℕ). leb x 8) (λ (x : ℕ). x ≤ 8) (λ x. le-leb x 8) (f .small) in
+    rw (due-finds 2 2 b (f .opens), eq-eqb _ _ (f .count), small, r .others)
 
 pub table-finds : (b : List ℕ) {A : Automaton} → TableFound b A → judge b ≡ found A
 unfolding judge check _>>_ _>>=_
 table-finds b r =
-    let n = le-leb _ _ (r .states) in
-    let m = le-leb _ _ (r .symbols) in
-    let k = le-leb _ _ (r .count) in
-    rw (due-finds 1 2 b (r .opens), eq-eqb _ _ (r .size), n, m, k, r .others)
+    let f = r .first in
+    let n = le-leb _ _ (f .states) in
+    let m = le-leb _ _ (f .symbols) in
+    let k = le-leb _ _ (f .count) in
+    rw (due-finds 1 2 b (f .opens), eq-eqb _ _ (f .size), n, m, k, r .others)
 
--- The counts of a table, and where its parts stand.
+-- The counts of a table.
 
-rules-count :
+pub rules-count :
     (n : ℕ) (ranks : List ℕ) (k : ℕ) (b : List ℕ) {us : List Rule} → judgeRules n ranks k b ≡ found us → length us ≡ k
 rules-count n ranks zero b h = ap length (no-rules-found n ranks b h .rules)
 rules-count n ranks (suc k) b h =
@@ -299,7 +356,7 @@ ranks-sized n m k b {A} h =
     let f = finals-found n (bodyOf b) k (drop (r .end) b) (r .others) in
     record {
       states = ap (λ (X : Automaton). X .states) (f .table);
-      symbols = ap (λ (X : Automaton). length (X .ranks)) (f .table) ∙ r .count;
+      symbols = ap (λ (X : Automaton). length (X .ranks)) (f .table) ∙ r .first .count;
       count = ap (λ (X : Automaton). length (X .rules)) (f .table) ∙ rules-count n (bodyOf b) k _ (f .others);
     }
 
@@ -307,21 +364,3 @@ pub judge-sized :
     (b : List ℕ) {A : Automaton} → judge b ≡ found A
     → Sized (number2 (bodyOf b)) (number2 (drop 2 (bodyOf b))) (number2 (drop 4 (bodyOf b))) A
 judge-sized b h = let t = table-found b h in ranks-sized _ _ _ (drop (t .end) b) (t .others)
-
-pub record Parts (b : List ℕ) (A : Automaton) : Type 0 where
-  pub ranks : A .ranks ≡ bodyOf (restOf b)
-  pub finals : A .finals ≡ numbers (bodyOf (restOf (restOf b)))
-  pub rules : judgeRules (A .states) (A .ranks) (length (A .rules)) (restOf (restOf (restOf b))) ≡ found (A .rules)
-
-pub judge-parts : (b : List ℕ) {A : Automaton} → judge b ≡ found A → Parts b A
-judge-parts b {A} h =
-    let t = table-found b h in
-    let r = ranks-found _ _ _ (drop (t .end) b) (t .others) in
-    let f = finals-found _ _ _ (drop (r .end) (drop (t .end) b)) (r .others) in
-    let e₁ = rest-behind b (t .opens) in
-    let e₂ = rest-behind (drop (t .end) b) (r .opens) in
-    let e₃ = rest-behind (drop (r .end) (drop (t .end) b)) (f .opens) in
-    let e₄ = judge-sized b h .count in
-    let e₅ = f .table in
-    let e₆ = f .others in
-    record { ranks = cc; finals = cc; rules = cc }

@@ -1,78 +1,55 @@
--- The judge's verdict on a part, from the verdicts on its records: one law for each way through the code after a record that is due.
-use Prim.Native.Nat.{ℕ, zero, suc, _+_, _-_, _*_, _%_, _≤_, _<_}
+-- The verdict on a rule's body, on the rules one after the other and on what stands behind them, and the counts of what is judged.
+use Prim.Native.Nat.{ℕ, zero, suc, _+_, _-_, _*_, _≤_, _<_}
 use native.Mathlib.Omega.{arith}
-use mathlib.Core.Path.{_≡_, refl, sym, ap}
+use mathlib.Core.Path.{_≡_, refl, sym, ap, _∙_}
 use mathlib.Core.List.{List, [], _∷_}
 use mathlib.Core.Bool.{true, false}
-use lib.ListN.{length, drop, getD}
-use lib.Dec.{leb, ltb}
+use lib.ListN.{length, drop, getD, length-take}
+use lib.Dec.{ltb}
 use borrow.Author.Tests.{le-leb, lt-leb, lt-ltb, le-ltb, eq-eqb, ne-eqb}
-use Rattle.automaton.specs.Lists.{all, rising}
+use Rattle.automaton.specs.Lists.{all}
 use Rattle.automaton.specs.Bytes.{number2, numbers}
 use Rattle.automaton.specs.Record.{bodyOf}
 use Rattle.automaton.specs.Automaton.{Rule, Automaton}
 use Rattle.automaton.specs.Read.{Read, found, refused, _>>=_, _>>_, check, mapRead}
 use Rattle.automaton.specs.Decoded.{sizeOf, sized}
-use Rattle.automaton.proofs.Opening.{opened-within}
-use Rattle.automaton.proofs.Inversion.{refused≢found, due-found, ranks-sized}
-use Rattle.automaton.specs.Table.{due, judgeRule, judgeRules, judgeFinals, judgeRanks, judge}
-use Rattle.automaton.specs.Inner.{passing, sizeIn}
-use Rattle.automaton.specs.declared.table.Size.{Size}
+use Rattle.automaton.proofs.Opening.{opened-within, body-within}
+use Rattle.automaton.proofs.Inversion.{refused≢found, found-same, bind-found, then-found, due-found, rule-found, ranks-sized}
+use Rattle.automaton.specs.Table.{due, ruleIn, judgeRule, judgeRules, judgeRanks}
+use Rattle.automaton.specs.Inner.{passing}
 
 same-cause : {A B : Type 0} {c d : ℕ} → _≡_ {A = Read A} (refused c) (refused d) → _≡_ {A = Read B} (refused c) (refused d)
 same-cause {c = c} {d = d} h = let e : c ≡ d = cc in ap refused e
 
-passing-found : {A B : Type 0} (f : A → B) (x : Read A) → passing (x >>= (λ (a : A). found (f a))) ≡ passing x
-unfolding passing _>>=_
-passing-found f (found a) = refl
-passing-found f (refused c) = refl
-
--- Readings one after the other: the first refusal decides.
+-- What was read, by whether it passes.
 module _ {A : Type 0} where
-  then-refused : (u : Read A) {B : Type 0} (y : Read B) {cause : ℕ} → passing u ≡ refused cause → u >> y ≡ refused cause
-  unfolding passing _>>_
-  then-refused (found a) y h = absurd (refused≢found (sym h))
-  then-refused (refused c) y h = same-cause h
+  pub passing-refused : (x : Read A) {cause : ℕ} → passing x ≡ refused cause → x ≡ refused cause
+  unfolding passing
+  passing-refused (found a) h = absurd (refused≢found (sym h))
+  passing-refused (refused c) h = same-cause h
 
-  then-passes : (u : Read A) {B : Type 0} (y : Read B) → passing u ≡ found tt → u >> y ≡ y
-  unfolding passing _>>_
-  then-passes (found a) y h = refl
-  then-passes (refused c) y h = absurd (refused≢found h)
+  pub passing-found : (x : Read A) → passing x ≡ found tt → (a : A) × (x ≡ found a)
+  unfolding passing
+  passing-found (found a) h = (a, refl)
+  passing-found (refused c) h = absurd (refused≢found h)
 
-  next-due : (d : Read ℕ) (u : Read A) {end : ℕ} → d >>= (λ (e : ℕ). u >> found e) ≡ found end → d ≡ found end
-  unfolding _>>=_ _>>_
-  next-due (refused c) u h = absurd (refused≢found h)
-  next-due (found e) (refused c) h = absurd (refused≢found h)
-  next-due (found e) (found a) h = h
-
-  module _ (f : ℕ → Read (List A)) where
-    steps-refused : (d : Read ℕ) (u : Read A) {cause : ℕ} → d >>= (λ (e : ℕ). u >> found e) ≡ refused cause
-        → passing (d >>= (λ (e : ℕ). u >>= (λ (a : A). f e >>= (λ (xs : List A). found (a ∷ xs))))) ≡ refused cause
-    unfolding passing _>>=_ _>>_
-    steps-refused (refused c) u h = same-cause h
-    steps-refused (found e) (refused c) h = same-cause h
-    steps-refused (found e) (found a) h = absurd (refused≢found (sym h))
-
-    steps-next : (d : Read ℕ) (u : Read A) {end : ℕ} → d >>= (λ (e : ℕ). u >> found e) ≡ found end
-        → passing (d >>= (λ (e : ℕ). u >>= (λ (a : A). f e >>= (λ (xs : List A). found (a ∷ xs))))) ≡ passing (f end)
-    unfolding _>>=_ _>>_
-    steps-next (refused c) u h = absurd (refused≢found h)
-    steps-next (found e) (refused c) h = absurd (refused≢found h)
-    steps-next (found e) (found a) {end} h =
-        let p : e ≡ end = cc in
-        rw p (passing-found (λ (xs : List A). a ∷ xs) (f end))
+  pub passing-map : {B : Type 0} (f : A → B) (x : Read A) → passing (x >>= (λ (a : A). found (f a))) ≡ passing x
+  unfolding passing _>>=_
+  passing-map f (found a) = refl
+  passing-map f (refused c) = refl
 
 -- The counts of what is judged.
-sized-refused : (x : Read Automaton) {cause : ℕ} → passing x ≡ refused cause → sized x ≡ refused cause
-unfolding passing sized mapRead
-sized-refused (found A) h = absurd (refused≢found (sym h))
-sized-refused (refused c) h = same-cause h
+pub sized-refused : (x : Read Automaton) {cause : ℕ} → passing x ≡ refused cause → sized x ≡ refused cause
+unfolding sized mapRead
+sized-refused x h = rw (passing-refused x h)
 
-sized-passes : (n m k : ℕ) (b : List ℕ) (x : Read Automaton) → judgeRanks n m k b ≡ x → passing x ≡ found tt
-    → sized x ≡ found (record { states = n; symbols = m; rules = k })
-unfolding passing sized mapRead sizeOf
-sized-passes n m k b (found A) e h = let s = ranks-sized n m k b e in rw (s .states, s .symbols, s .count)
-sized-passes n m k b (refused c) e h = absurd (refused≢found h)
+pub sized-passes : (n m k : ℕ) (b : List ℕ) → passing (judgeRanks n m k b) ≡ found tt
+    → sized (judgeRanks n m k b) ≡ found (record { states = n; symbols = m; rules = k })
+unfolding sized mapRead sizeOf
+sized-passes n m k b h =
+    let (A, e) = passing-found (judgeRanks n m k b) h in
+    let s = ranks-sized n m k b e in
+    rw (e, s .states, s .symbols, s .count)
 
 -- A rule's body.
 module _ (n : ℕ) (ranks body : List ℕ) where
@@ -98,41 +75,64 @@ module _ (n : ℕ) (ranks body : List ℕ) where
       unfolding judgeRule check _>>_ passing
       rule-passes t = rw (le-leb 4 (length body) h, lt-ltb (number2 body) (length ranks) s, eq-eqb _ _ a, t)
 
--- A record that is due ends within the bytes.
-pub due-within : (kind missing : ℕ) (b : List ℕ) {end : ℕ} → due kind missing b ≡ found end → end ≤ length b
-due-within kind missing b d = opened-within b _ _ (due-found kind missing b d) .stop
-
 -- The next rule: where it ends.
 abbrev pub nextRule : ℕ → List ℕ → List ℕ → Read ℕ
 nextRule n ranks b = due 4 7 b >>= (λ (end : ℕ). judgeRule n ranks (bodyOf b) >> found end)
 
+steps-refused : (d : Read ℕ) (u : Read Rule) (f : ℕ → Rule → Read (List Rule)) {cause : ℕ}
+    → d >>= (λ (e : ℕ). u >> found e) ≡ refused cause → d >>= (λ (e : ℕ). u >>= f e) ≡ refused cause
+unfolding _>>=_ _>>_
+steps-refused (refused c) u f h = same-cause h
+steps-refused (found e) (refused c) f h = same-cause h
+steps-refused (found e) (found a) f h = absurd (refused≢found (sym h))
+
+-- What the code has tested of the next rule, and where the rule then stands.
+pub record NextFound (n : ℕ) (ranks b : List ℕ) (end : ℕ) : Type 0 where
+  pub is-due : due 4 7 b ≡ found end
+  pub judged : judgeRule n ranks (bodyOf b) ≡ found (ruleIn (bodyOf b))
+  pub start : 10 ≤ end
+  pub stop : end ≤ length b
+
 module _ (n : ℕ) (ranks b : List ℕ) where
   pub next-refused : {end cause : ℕ} → due 4 7 b ≡ found end → passing (judgeRule n ranks (bodyOf b)) ≡ refused cause
       → nextRule n ranks b ≡ refused cause
-  unfolding _>>=_
-  next-refused d u = rw d (then-refused (judgeRule n ranks (bodyOf b)) _ u)
+  unfolding _>>=_ _>>_
+  next-refused d u = rw (d, passing-refused (judgeRule n ranks (bodyOf b)) u)
 
   pub next-passes : {end : ℕ} → due 4 7 b ≡ found end → passing (judgeRule n ranks (bodyOf b)) ≡ found tt
       → nextRule n ranks b ≡ found end
-  unfolding _>>=_
-  next-passes d u = rw d (then-passes (judgeRule n ranks (bodyOf b)) _ u)
+  unfolding _>>=_ _>>_
+  next-passes d u = rw (d, passing-found (judgeRule n ranks (bodyOf b)) u .1)
 
-  pub next-within : {end : ℕ} → nextRule n ranks b ≡ found end → end ≤ length b
-  next-within h = due-within 4 7 b (next-due (due 4 7 b) (judgeRule n ranks (bodyOf b)) h)
+  pub next-found : {end : ℕ} → nextRule n ranks b ≡ found end → NextFound n ranks b end
+  next-found {end} h =
+      let c = bind-found (due 4 7 b) _ h in
+      let d = then-found (judgeRule n ranks (bodyOf b)) _ (c .2) in
+      let e : c .0 ≡ end = found-same (d .2) in
+      let f = rule-found n ranks (bodyOf b) (d .1) in
+      let o = due-found 4 7 b (rw e at (c .1)) in
+      let w = opened-within b 4 end o in
+      let some : length (bodyOf b) ≤ end - 6 = rw (body-within b o, length-take) (omega arith) in
+      record {
+        is-due = rw e at (c .1);
+        judged = d .1 ∙ ap found (f .rule);
+        start = omega (arith, f .start);
+        stop = w .stop;
+      }
 
-  pub rules-refused : {cause : ℕ} (k : ℕ) → 0 < k → nextRule n ranks b ≡ refused cause → passing (judgeRules n ranks k b) ≡ refused cause
+  pub rules-refused : {cause : ℕ} (k : ℕ) → 0 < k → nextRule n ranks b ≡ refused cause → judgeRules n ranks k b ≡ refused cause
   unfolding judgeRules
   rules-refused zero p h = absurd (omega arith)
-  rules-refused (suc k) p h =
-      steps-refused (λ (end : ℕ). judgeRules n ranks k (drop end b)) (due 4 7 b) (judgeRule n ranks (bodyOf b)) h
+  rules-refused (suc k) p h = steps-refused (due 4 7 b) (judgeRule n ranks (bodyOf b)) _ h
 
   pub rules-next : {end : ℕ} (k : ℕ) → 0 < k → nextRule n ranks b ≡ found end
-      → passing (judgeRules n ranks k b) ≡ passing (judgeRules n ranks (k - 1) (drop end b))
-  unfolding judgeRules
+      → judgeRules n ranks k b ≡ judgeRules n ranks (k - 1) (drop end b) >>= (λ (rules : List Rule). found (ruleIn (bodyOf b) ∷ rules))
+  unfolding judgeRules _>>=_
   rules-next zero p h = absurd (omega arith)
   rules-next (suc k) p h =
       let e : suc k - 1 ≡ k = omega arith in
-      rw e (steps-next (λ (end : ℕ). judgeRules n ranks k (drop end b)) (due 4 7 b) (judgeRule n ranks (bodyOf b)) h)
+      let f = next-found h in
+      rw (e, f .is-due, f .judged)
 
 -- Behind the last rule.
 pub rules-end : (n : ℕ) (ranks b : List ℕ) → passing (judgeRules n ranks 0 b) ≡ passing (judgeRules 0 [] 0 b)
@@ -158,77 +158,3 @@ module _ (b : List ℕ) (some : length b ≡ 0 → ⊥) where
   pub end-more : {end : ℕ} → due 4 7 b ≡ found end → passing (judgeRules 0 [] 0 b) ≡ refused 7
   unfolding passing _>>_
   end-more d = rw (end-some b some, d)
-
--- The final states. `body` is the record's body.
-module _ (n : ℕ) (ranks : List ℕ) (k : ℕ) (b : List ℕ) {end : ℕ} (d : due 3 2 b ≡ found end) {body : List ℕ} (is : body ≡ bodyOf b) where
-  pub finals-odd : (length body % 2 ≡ 0 → ⊥) → passing (judgeFinals n ranks k b) ≡ refused 3
-  unfolding judgeFinals passing _>>=_ _>>_ check
-  finals-odd e = rw (d, ← is, ne-eqb _ _ e)
-
-  module _ (e : length body % 2 ≡ 0) where
-    pub finals-range : all (λ (q : ℕ). ltb q n) (numbers body) ≡ false → passing (judgeFinals n ranks k b) ≡ refused 5
-    unfolding judgeFinals passing _>>=_ _>>_ check
-    finals-range s = rw (d, ← is, eq-eqb _ _ e, s)
-
-    module _ (s : all (λ (q : ℕ). ltb q n) (numbers body) ≡ true) where
-      pub finals-order : rising (numbers body) ≡ false → passing (judgeFinals n ranks k b) ≡ refused 6
-      unfolding judgeFinals passing _>>=_ _>>_ check
-      finals-order r = rw (d, ← is, eq-eqb _ _ e, s, r)
-
-      table : List Rule → Automaton
-      table us = record { states = n; ranks = ranks; finals = numbers body; rules = us }
-
-      pub finals-rules : rising (numbers body) ≡ true → passing (judgeFinals n ranks k b) ≡ passing (judgeRules n ranks k (drop end b))
-      unfolding judgeFinals _>>=_ _>>_ check table
-      finals-rules r = rw (d, ← is, eq-eqb _ _ e, s, r) (passing-found table (judgeRules n ranks k (drop end b)))
-
--- The ranks. `body` is the record's body.
-module _ (n m k : ℕ) (b : List ℕ) {end : ℕ} (d : due 2 2 b ≡ found end) {body : List ℕ} (is : body ≡ bodyOf b) where
-  pub ranks-length : (length body ≡ m → ⊥) → passing (judgeRanks n m k b) ≡ refused 3
-  unfolding judgeRanks passing _>>=_ _>>_ check
-  ranks-length e = rw (d, ← is, ne-eqb _ _ e)
-
-  module _ (e : length body ≡ m) where
-    pub ranks-limit : all (λ (r : ℕ). leb r 8) body ≡ false → passing (judgeRanks n m k b) ≡ refused 4
-    unfolding judgeRanks passing _>>=_ _>>_ check
-    ranks-limit s = rw (d, ← is, eq-eqb _ _ e, s)
-
-    pub ranks-finals : all (λ (r : ℕ). leb r 8) body ≡ true → passing (judgeRanks n m k b) ≡ passing (judgeFinals n body k (drop end b))
-    unfolding judgeRanks _>>=_ _>>_ check
-    ranks-finals s = rw (d, ← is, eq-eqb _ _ e, s)
-
--- The whole table. `body` is the first record's body, and `size` the counts in it.
-module _ (b : List ℕ) {end : ℕ} (d : due 1 2 b ≡ found end) {body : List ℕ} (is : body ≡ bodyOf b) where
-  pub size-length : (length body ≡ 6 → ⊥) → sized (judge b) ≡ refused 3
-  unfolding judge sized mapRead _>>=_ _>>_ check
-  size-length e = rw (d, ← is, ne-eqb _ _ e)
-
-  module _ (e : length body ≡ 6) {size : Size} (counts : size ≡ sizeIn body) where
-    pub too-many-states : 256 < size .states → sized (judge b) ≡ refused 4
-    unfolding judge sized mapRead _>>=_ _>>_ check sizeIn
-    too-many-states n = rw (d, ← is, eq-eqb _ _ e, lt-leb _ _ (rw counts at n))
-
-    module _ (n : size .states ≤ 256) where
-      pub too-many-symbols : 256 < size .symbols → sized (judge b) ≡ refused 4
-      unfolding judge sized mapRead _>>=_ _>>_ check sizeIn
-      too-many-symbols m = rw (d, ← is, eq-eqb _ _ e, le-leb _ _ (rw counts at n), lt-leb _ _ (rw counts at m))
-
-      module _ (m : size .symbols ≤ 256) where
-        pub too-many-rules : 1024 < size .rules → sized (judge b) ≡ refused 4
-        unfolding judge sized mapRead _>>=_ _>>_ check sizeIn
-        too-many-rules k =
-            rw (d, ← is, eq-eqb _ _ e, le-leb _ _ (rw counts at n), le-leb _ _ (rw counts at m), lt-leb _ _ (rw counts at k))
-
-        module _ (k : size .rules ≤ 1024) where
-          others : judge b ≡ judgeRanks (size .states) (size .symbols) (size .rules) (drop end b)
-          unfolding judge _>>=_ _>>_ check sizeIn
-          others =
-              rw (d, ← is, eq-eqb _ _ e, le-leb _ _ (rw counts at n), le-leb _ _ (rw counts at m), le-leb _ _ (rw counts at k), counts)
-
-          pub table-refused : {cause : ℕ} → passing (judgeRanks (size .states) (size .symbols) (size .rules) (drop end b)) ≡ refused cause
-              → sized (judge b) ≡ refused cause
-          table-refused h = rw others (sized-refused _ h)
-
-          pub table-passes : passing (judgeRanks (size .states) (size .symbols) (size .rules) (drop end b)) ≡ found tt
-              → sized (judge b) ≡ found size
-          table-passes h = rw others (sized-passes _ _ _ (drop end b) _ refl h)

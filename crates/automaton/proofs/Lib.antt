@@ -1,6 +1,7 @@
 pub mod Examples
 pub mod Elements
 pub mod Ranges
+pub mod Rowing
 pub mod Keeping
 pub mod Distinctness
 pub mod Opening
@@ -14,7 +15,7 @@ pub mod Leaving
 pub mod Judging
 pub mod Encoding
 pub mod StateSets
-pub mod Copying
+pub mod Filling
 pub mod Meaning
 pub mod WrittenBytes
 pub mod Theorems

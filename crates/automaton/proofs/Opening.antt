@@ -10,7 +10,6 @@ use lib.Dec.{leb}
 use borrow.Author.Tests.{le-leb, lt-leb, leb-true}
 use Rattle.automaton.specs.Bytes.{number2, number4}
 use Rattle.automaton.specs.Record.{whole, nothing, refused, endOf, isWhole, opened, bodyIn, bodyOf}
-use Rattle.automaton.specs.Inner.{endIn, firstEnd, restOf}
 
 pub opened-empty : (b : List ℕ) → length b ≡ 0 → opened b ≡ nothing
 unfolding opened
@@ -70,12 +69,7 @@ opened-within (x ∷ b) kind end h = go (leb 2 (number4 (x ∷ b))) (leb (4 + nu
     go true false e f g = absurd (refused≢whole g)
     go false t e f g = absurd (refused≢whole g)
 
--- The body of a record that opens, and the bytes after it.
-
+-- The body of a record that opens.
 pub body-within : (b : List ℕ) {kind end : ℕ} → opened b ≡ whole kind end → bodyOf b ≡ take (end - 6) (drop 6 b)
 unfolding bodyOf bodyIn
 body-within b e = rw e
-
-pub rest-behind : (b : List ℕ) {kind end : ℕ} → opened b ≡ whole kind end → restOf b ≡ drop end b
-unfolding restOf firstEnd endIn
-rest-behind b e = rw e

@@ -1,7 +1,11 @@
--- Repeated elements and ranges of numbers: what holds of all their elements, and that a range rises.
+-- Repeated elements and ranges of numbers: what holds of all their elements, a range's members, and that a range rises.
 use Prim.Native.Nat.{ℕ, zero, suc, _+_, _≤_, _<_}
+use native.Mathlib.Decide.{ℕ-discrete}
+use native.Mathlib.Numerals.{add-one}
 use native.Mathlib.Omega.{arith}
-use lib.ListN.{replicate}
+use mathlib.Core.Path.{_≡_, refl, ap, ap₂, _∙_}
+use mathlib.Core.List.{[], _∷_, _++_, List·Memᴰ, List·Memᴰ·head, List·Memᴰ·tail, List·Memᴰ·not-nil}
+use lib.ListN.{length, replicate}
 use Rattle.automaton.specs.Lists.{All, none, also, Rising, empty, single, step, from}
 
 pub replicate-all : {A : Type 0} {P : A → Type 0} (n : ℕ) (x : A) → P x → All P (replicate n x)
@@ -18,3 +22,29 @@ unfolding from
 from-rising i zero = empty
 from-rising i (suc zero) = single
 from-rising i (suc (suc n)) = step {a = i} {b = suc i} (omega arith) (from-rising (suc i) (suc n))
+
+pub length-from : (i n : ℕ) → length (from i n) ≡ n
+unfolding from
+length-from i zero = refl
+length-from i (suc n) = ap suc (length-from (suc i) n)
+
+pub from-step : (i n : ℕ) → from i (n + 1) ≡ from i n ++ ((i + n) ∷ [])
+unfolding from
+from-step i n = rw add-one (go i n)
+  where
+    go : (i n : ℕ) → from i (suc n) ≡ from i n ++ ((i + n) ∷ [])
+    go i zero = ap (λ (j : ℕ). j ∷ []) (omega arith)
+    go i (suc n) = ap₂ _∷_ refl (go (suc i) n ∙ ap (λ (j : ℕ). from (suc i) n ++ (j ∷ [])) (omega arith))
+
+pub from-member : (n i q : ℕ) → i ≤ q → q < i + n → List·Memᴰ q (from i n)
+unfolding from
+from-member zero i q l h = absurd (omega arith)
+from-member (suc n) i q l h =
+    elim (ℕ-discrete q i)
+    [ yes e ↦ List·Memᴰ·head e | no d ↦ List·Memᴰ·tail (from-member n (suc i) q (omega arith) (omega arith)) ]
+
+pub member-from : (n i q : ℕ) → List·Memᴰ q (from i n) → (i ≤ q) × (q < i + n)
+unfolding from
+member-from zero i q m = absurd (List·Memᴰ·not-nil m)
+member-from (suc n) i q (List·Memᴰ·head e) = (omega arith, omega arith)
+member-from (suc n) i q (List·Memᴰ·tail m) = let h = member-from n (suc i) q m in (omega arith, omega arith)

@@ -1,9 +1,9 @@
 -- The members of a state set after each operation, and that they determine it: a member is a bit of a word.
-use Prim.Native.Nat.{ℕ, zero, suc, _+_, _*_, _/_, _%_, _^_, _≤_, _<_, max}
+use Prim.Native.Nat.{ℕ, zero, suc, _+_, _*_, _/_, _%_, _^_, _≤_, _<_, min, max}
 use mathlib.Core.Path.{_≡_, refl, sym, ap, ap₂, _∙_}
 use mathlib.Core.List.{List, [], _∷_}
 use mathlib.Core.Bool.{Bool, true, false, cond, not, _&&_, _||_, xor}
-use mathlib.Core.Bool.{true≢false, false≢true, or-comm, or-true, or-false}
+use mathlib.Core.Bool.{true≢false, false≢true, or-comm, or-true, or-false, and-eq-true-iff}
 use native.Mathlib.Nat.{one-mul, zero-div, pow-suc}
 use native.Mathlib.Numerals.{one-add}
 use native.Mathlib.Omega.{arith}
@@ -11,11 +11,11 @@ use lib.ListN.{length, getD, set}
 use lib.Seq.{ext-getD}
 use lib.Dec.{eqb, eqb·zero-suc, eqb·suc-zero, eqb·suc-suc}
 use lib.Pow.{shl-exact, shr-shr}
-use lib.Bits.{bitOr, bitXor, differ, or-shr, or-step, xor-shr, xor-step}
+use lib.Bits.{bitAnd, bitOr, bitXor, differ, and-shr, and-step, or-shr, or-step, xor-shr, xor-step}
 use borrow.Author.Tests.{eq-eqb, ne-eqb, eqb-true, eqb-false}
 use Rattle.automaton.specs.StateSet.{member, words, emptySet, replaced, withState, withoutState}
 use Rattle.automaton.proofs.Elements.{all-map}
-use Rattle.automaton.specs.StateSet.{unionOf, withAll, setOf}
+use Rattle.automaton.specs.StateSet.{unionOf, meetOf, sameSet, withAll, setOf}
 use Rattle.automaton.specs.Lists.{All, none, also, Rising, empty, single, step, from, keep}
 
 pub below-four : (P : ℕ → Type 0) → P 0 → P 1 → P 2 → P 3 → (i : ℕ) → i < 4 → P i
@@ -45,6 +45,19 @@ unfolding words replaced
 set-replaced ws i w e h =
     let vs : List ℕ = words (λ (k : ℕ). getD ws k 0) in
     rw (words-getD ws e) (below-four (λ (j : ℕ). set vs j w ≡ replaced vs j w) refl refl refl refl i h)
+
+-- An operation with a number in one word and 0 in the others, where 0 changes nothing.
+pub words-changed : (f : ℕ → ℕ → ℕ) → ((w : ℕ) → f w 0 ≡ w) → (ws : List ℕ) (i p : ℕ)
+    → words (λ (j : ℕ). f (getD ws j 0) (cond (eqb j i) p 0)) ≡ replaced ws i (f (getD ws i 0) p)
+unfolding words replaced
+words-changed f unchanged ws i p = rw (word 0, word 1, word 2, word 3)
+  where
+    word : (j : ℕ) → f (getD ws j 0) (cond (eqb j i) p 0) ≡ cond (eqb j i) (f (getD ws i 0) p) (getD ws j 0)
+    word j = go (eqb j i) refl
+      where
+        go : (t : Bool) → eqb j i ≡ t → f (getD ws j 0) (cond t p 0) ≡ cond t (f (getD ws i 0) p) (getD ws j 0)
+        go true e = rw (eqb-true j i e)
+        go false e = unchanged (getD ws j 0)
 
 pub one-bit : (j : ℕ) → j < 64 → 1 * 2 ^ j % 18446744073709551616 ≡ 2 ^ j
 one-bit j h = shl-exact 1 j 64 (omega arith) (omega arith) ∙ one-mul (2 ^ j)
@@ -87,6 +100,11 @@ bit-or : (a b k : ℕ) → bit (bitOr a b) k ≡ (bit a k || bit b k)
 bit-or =
     bit-digitwise bitOr max _||_ or-shr or-step
     (two-digits (λ (x y : ℕ). max x y ≡ cond (eqb x 1 || eqb y 1) 1 0) refl refl refl refl)
+
+bit-and : (a b k : ℕ) → bit (bitAnd a b) k ≡ (bit a k && bit b k)
+bit-and =
+    bit-digitwise bitAnd min _&&_ and-shr and-step
+    (two-digits (λ (x y : ℕ). min x y ≡ cond (eqb x 1 && eqb y 1) 1 0) refl refl refl refl)
 
 bit-xor : (a b k : ℕ) → bit (bitXor a b) k ≡ xor (bit a k) (bit b k)
 unfolding xor
@@ -166,6 +184,10 @@ member-without ws q r h =
 pub member-union : (ws vs : List ℕ) (r : ℕ) → r < 256 → member (unionOf ws vs) r ≡ (member ws r || member vs r)
 unfolding unionOf member bit
 member-union ws vs r h = member-words _ r h ∙ bit-or _ _ (r % 64)
+
+pub member-meet : (ws vs : List ℕ) (r : ℕ) → r < 256 → member (meetOf ws vs) r ≡ (member ws r && member vs r)
+unfolding meetOf member bit
+member-meet ws vs r h = member-words _ r h ∙ bit-and _ _ (r % 64)
 
 -- The first set without the second.
 pub member-minus : (ws vs : List ℕ) (r : ℕ) → r < 256
@@ -289,3 +311,22 @@ same-members ws vs lw lv bw bv same =
     let word : (i * 64 + k) / 64 ≡ i = omega arith in
     let place : (i * 64 + k) % 64 ≡ k = omega arith in
     rw (word, place) at (same (i * 64 + k) (omega arith))))
+
+pub same-set-in : (ws : List ℕ) → sameSet ws ws ≡ true
+unfolding sameSet
+same-set-in ws = rw (same 0, same 1, same 2, same 3)
+  where
+    same : (i : ℕ) → eqb (getD ws i 0) (getD ws i 0) ≡ true
+    same i = eq-eqb (getD ws i 0) (getD ws i 0) refl
+
+pub same-set-out : (ws vs : List ℕ) → length ws ≡ 4 → length vs ≡ 4 → sameSet ws vs ≡ true → ws ≡ vs
+unfolding sameSet
+same-set-out ws vs lw lv e =
+    let (a, s) = and-eq-true-iff (same 0) (same 1 && (same 2 && same 3)) .0 e in
+    let (b, t) = and-eq-true-iff (same 1) (same 2 && same 3) .0 s in
+    let (c, d) = and-eq-true-iff (same 2) (same 3) .0 t in
+    ext-getD 0 ws vs (lw ∙ sym lv)
+    (λ i h. eqb-true (getD ws i 0) (getD vs i 0) (below-four (λ (j : ℕ). same j ≡ true) a b c d i (omega arith)))
+  where
+    same : ℕ → Bool
+    same i = eqb (getD ws i 0) (getD vs i 0)

@@ -1,15 +1,16 @@
 -- What holds of reading, stated over the definitions of specs/ alone. Each theorem is proved in the file that its body names.
 use Prim.Native.Nat.{ℕ, _≤_, _<_}
-use mathlib.Core.Path.{_≡_, refl, subst}
-use mathlib.Core.List.{List, _++_}
+use mathlib.Core.Path.{_≡_, subst}
+use mathlib.Core.List.{List}
 use mathlib.Core.Bool.{false, not, _&&_, _||_}
 use lib.ListN.{length, getD}
 use lib.Dec.{eqb}
 use Rattle.automaton.specs.Automaton.{Automaton, WellFormed}
 use Rattle.automaton.specs.Read.{found, refused}
 use Rattle.automaton.specs.Table.{judge, encode}
-use Rattle.automaton.specs.StateSet.{member, emptySet, withState, withoutState, unionOf, setOf}
-use Rattle.automaton.specs.Decoded.{sizeOf, rows, automatonIn, ranksAfter, rowsAfter, written, writtenOver, Decodes}
+use Rattle.automaton.specs.StateSet.{member, emptySet, withState, withoutState, unionOf}
+use Rattle.automaton.specs.Row.{Rows}
+use Rattle.automaton.specs.Decoded.{automatonIn, written, writtenOver, Decodes}
 use Rattle.automaton.specs.declared.decoding.Decoded.{Decoded}
 use Rattle.automaton.specs.declared.table.Size.{Size}
 use Rattle.automaton.specs.declared.table.Judged.the-variants.{Table}
@@ -45,27 +46,22 @@ table-length b A bytes e =
     subst (λ (l : List ℕ). (24 ≤ length l) × (length l ≤ 27416)) (encode-judged b A bytes e)
     (encoding.encode-length A (judged-well-formed b A e))
 
--- The arrays that decoding fills, whatever stands after their content, hold the automaton.
-pub decoded-means : (A : Automaton) → WellFormed A → (x y : List ℕ)
-    → automatonIn (sizeOf A) (setOf (A .finals)) (A .ranks ++ x) (rows (A .rules) ++ y) ≡ A
-decoded-means = meaning.automaton-back
+-- The arrays that decoding fills hold the automaton.
+pub decoded-means : (b : List ℕ) (r : Decoded) (size : Size) (ranks rows : List ℕ) → Decodes (judge b) r ranks rows
+    → r .judged ≡ Table size → judge b ≡ found (automatonIn size (r .finals .words) ranks rows)
+decoded-means = meaning.decoded-means
 
 -- What `decode` returns for a table that it does not refuse can be written, and is then the table's own bytes.
-pub decoded-writable : (b : List ℕ) (r : Decoded) (size : Size) (ranks ranks′ cells cells′ : List ℕ)
-    → Decodes b r ranks ranks′ cells cells′ → r .judged ≡ Table size
-    → (size .symbols ≤ 256) × WellFormed (automatonIn size (r .finals .words) ranks′ cells′)
+pub decoded-writable : (b : List ℕ) (r : Decoded) (size : Size) (ranks rows : List ℕ) → Decodes (judge b) r ranks rows
+    → r .judged ≡ Table size
+    → (size .symbols ≤ length ranks) × (Rows rows (size .rules) × WellFormed (automatonIn size (r .finals .words) ranks rows))
 decoded-writable = meaning.decoded-writable
 
-pub decoded-encodes : (b : List ℕ) (r : Decoded) (size : Size) (ranks ranks′ cells cells′ : List ℕ) → ((i : ℕ) → getD b i 0 < 256)
-    → Decodes b r ranks ranks′ cells cells′ → r .judged ≡ Table size → encode (automatonIn size (r .finals .words) ranks′ cells′) ≡ b
+pub decoded-encodes : (b : List ℕ) (r : Decoded) (size : Size) (ranks rows : List ℕ) → ((i : ℕ) → getD b i 0 < 256)
+    → Decodes (judge b) r ranks rows → r .judged ≡ Table size → encode (automatonIn size (r .finals .words) ranks rows) ≡ b
 decoded-encodes = meaning.decoded-encodes
 
--- Decoding a table that is refused leaves both arrays, and writing with too little room the output.
-pub decoding-leaves : (b ranks cells : List ℕ) (cause : ℕ) → judge b ≡ refused cause
-    → (ranksAfter (judge b) ranks ≡ ranks) × (rowsAfter (judge b) cells ≡ cells)
-unfolding ranksAfter rowsAfter
-decoding-leaves b ranks cells cause e = rw e (refl, refl)
-
+-- Writing with too little room leaves the output.
 pub writing-leaves : (bytes out : List ℕ) (cause : ℕ) → written bytes out ≡ refused cause → writtenOver bytes out ≡ out
 writing-leaves = leaving.written-keeps
 

@@ -1,27 +1,29 @@
 -- Bytes written over a buffer: one run after another, runs that grow turn by turn; the parts of a table in bytes.
 use Prim.Native.Nat.{ℕ, zero, suc, _+_, _-_, _*_, _/_, _%_, _≤_, _<_}
 use mathlib.Core.Path.{_≡_, refl, sym, ap, ap₂, _∙_}
-use mathlib.Core.List.{List, [], _∷_, _++_, map, append-assoc, append-nil, map-append}
-use mathlib.Core.Bool.{Bool, true, false, cond}
-use native.Mathlib.Nat.{add-assoc, add-zero, zero-add, add-suc, suc-add, le-of-eq}
-use native.Mathlib.Numerals.{add-one, add-two}
+use mathlib.Core.List.{List, [], _∷_, _++_, append-assoc, append-nil}
+use mathlib.Core.Bool.{Bool, true, false}
+use native.Mathlib.Nat.{add-assoc, zero-add, le-of-eq}
+use native.Mathlib.Numerals.{add-one}
 use native.Mathlib.Omega.{arith}
-use lib.ListN.{length, getD, take, drop, set, length-append, length-take, length-drop, length-map}
-use lib.Seq.{take-length, take-take, take-suc, take-at, drop-at, drop-drop, drop-cons, getD-take, getD-drop, length-take-le, sets-eq}
+use lib.ListN.{length, getD, take, drop, set, length-append}
+use lib.Seq.{take-length, take-take, take-suc, take-at, drop-at, drop-drop, length-take-le, sets-eq}
 use lib.Seq.{paste, paste-zero, paste-suc, take-paste, drop-paste}
 use borrow.Author.Tests.{le-leb, lt-leb}
-use Rattle.automaton.specs.Lists.{All, also, from, keep}
+use Rattle.automaton.specs.Lists.{from, keep}
 use Rattle.automaton.specs.Bytes.{bytes2, bytes4, fields}
-use Rattle.automaton.specs.Automaton.{Rule, WellFormedRule, WellFormed}
+use Rattle.automaton.specs.Automaton.{Rule, WellFormed}
 use Rattle.automaton.specs.Record.{encodeRecord}
 use Rattle.automaton.specs.Table.{encodeRule, encodeRules, encode}
 use Rattle.automaton.specs.Read.{found, refused}
 use Rattle.automaton.specs.StateSet.{member}
-use Rattle.automaton.specs.Decoded.{ruleAt, automatonIn, written, writtenOver}
-use Rattle.automaton.specs.Inner.{over, RowFits}
+use Rattle.automaton.specs.Row.{ruleAt, rulesIn}
+use Rattle.automaton.specs.Decoded.{automatonIn, written, writtenOver}
+use Rattle.automaton.specs.Inner.{over}
 use Rattle.automaton.specs.declared.table.Size.{Size}
-use Rattle.automaton.proofs.Elements.{all-at}
-use Rattle.automaton.proofs.Keeping.{keep-append}
+use Rattle.automaton.proofs.Ranges.{from-step, length-from}
+use Rattle.automaton.proofs.Rowing.{rules-next, rules-length}
+use Rattle.automaton.proofs.Keeping.{keep-append, keep-shorter}
 use Rattle.automaton.proofs.Fields.{length-fields}
 use Rattle.automaton.proofs.Records.{length-record}
 
@@ -112,17 +114,13 @@ unfolding fields bytes2
 fields-single v = refl
 
 -- A turn of a loop that copies fields.
-pub over-field : (out : List ℕ) (at : ℕ) (src : List ℕ) (start j : ℕ) → start + j < length src
-    → at + 2 * j + 2 ≤ length out
-    → over (over out at (fields (take j (drop start src)))) (at + 2 * j) (bytes2 (getD src (start + j) 0))
-    ≡ over out at (fields (take (j + 1) (drop start src)))
+pub over-field : (out : List ℕ) (at : ℕ) (src : List ℕ) (j : ℕ) → j < length src → at + 2 * j + 2 ≤ length out
+    → over (over out at (fields (take j src))) (at + 2 * j) (bytes2 (getD src j 0)) ≡ over out at (fields (take (j + 1) src))
 unfolding bytes2
-over-field out at src start j h l =
-    let vs : List ℕ = drop start src in
-    let inside : j < length vs = rw length-drop (omega arith) in
-    let place : length (fields (take j vs)) ≡ 2 * j = rw (length-fields, length-take-le j vs (omega arith)) in
-    over-over out at (fields (take j vs)) (bytes2 (getD src (start + j) 0)) (at + 2 * j) (omega arith) l
-    ∙ ap (over out at) (rw (add-one, take-suc vs j 0 inside, fields-append, fields-single, getD-drop))
+over-field out at src j h l =
+    let place : length (fields (take j src)) ≡ 2 * j = rw (length-fields, length-take-le j src (omega arith)) in
+    over-over out at (fields (take j src)) (bytes2 (getD src j 0)) (at + 2 * j) (omega arith) l
+    ∙ ap (over out at) (rw (add-one, take-suc src j 0 h, fields-append, fields-single))
 
 -- Records.
 
@@ -134,33 +132,10 @@ unfolding encodeRecord bytes4 bytes2
 over-record out at kind size now body next e f sized fits =
     over-then out at _ now (at + 6) body next (rw sized at e) f (omega arith) (omega arith)
 
--- Ranges and states.
-
-pub from-step : (i n : ℕ) → from i (n + 1) ≡ from i n ++ ((i + n) ∷ [])
-unfolding from
-from-step i n = rw add-one (go i n)
-  where
-    go : (i n : ℕ) → from i (suc n) ≡ from i n ++ ((i + n) ∷ [])
-    go i zero = ap (λ (j : ℕ). j ∷ []) (omega arith)
-    go i (suc n) = ap₂ _∷_ refl (go (suc i) n ∙ ap (λ (j : ℕ). from (suc i) n ++ (j ∷ [])) (omega arith))
-
-pub length-from : (i n : ℕ) → length (from i n) ≡ n
-unfolding from
-length-from i zero = refl
-length-from i (suc n) = ap suc (length-from (suc i) n)
-
-length-keep : (test : ℕ → Bool) (vs : List ℕ) → length (keep test vs) ≤ length vs
-unfolding keep
-length-keep test [] = omega arith
-length-keep test (v ∷ vs) = go (test v) (length-keep test vs)
-  where
-    go : (b : Bool) → length (keep test vs) ≤ length vs
-        → length (cond b (v ∷ keep test vs) (keep test vs)) ≤ suc (length vs)
-    go true h = omega arith
-    go false h = omega arith
+-- States.
 
 pub kept-few : (test : ℕ → Bool) (n : ℕ) → length (keep test (from 0 n)) ≤ n
-kept-few test n = omega (arith, length-keep test (from 0 n), length-from 0 n)
+kept-few test n = omega (arith, keep-shorter test (from 0 n), length-from 0 n)
 
 pub keep-in : (test : ℕ → Bool) (q : ℕ) → test q ≡ true → keep test (q ∷ []) ≡ q ∷ []
 unfolding keep
@@ -189,38 +164,24 @@ states test = record {
 
 -- Rules.
 
-pub room-for-head : (u : Rule) → 6 ≤ length (encodeRule u)
+pub length-rule : (u : Rule) → length (encodeRule u) ≡ 10 + 2 * length (u .children)
 unfolding encodeRule
-room-for-head u = omega (arith, length-record 4 (fields (u .symbol ∷ u .target ∷ u .children)))
+length-rule u = rw (length-record, length-fields) (omega arith)
 
-take-two : (vs : List ℕ) (at n : ℕ) → at + 2 ≤ length vs
-    → take (2 + n) (drop at vs) ≡ getD vs at 0 ∷ getD vs (at + 1) 0 ∷ take n (drop (at + 2) vs)
-take-two vs at n h =
-    let two : 2 + n ≡ suc (suc n) = omega arith in
-    let first : at < length vs = omega arith in
-    let second : suc at < length vs = omega arith in
-    rw (two, add-one, add-two, drop-cons vs at 0, drop-cons vs (suc at) 0)
-
-abbrev pub rankAt : List ℕ → List ℕ → ℕ → ℕ
-rankAt ranks rows i = getD ranks (getD rows (10 * i) 0) 0
-
--- The fields of a row, symbol and target with as many children as the rank says.
-abbrev pub rowFields : List ℕ → List ℕ → ℕ → List ℕ
-rowFields ranks rows i = fields (take (2 + rankAt ranks rows i) (drop (10 * i) rows))
-
-module _ (ranks rows : List ℕ) (i : ℕ) (h : 10 * i + 10 ≤ length rows) where
-  pub encodeRule-row : encodeRule (ruleAt ranks rows i) ≡ encodeRecord 4 (rowFields ranks rows i)
-  unfolding encodeRule ruleAt
-  encodeRule-row =
-      ap (λ (vs : List ℕ). encodeRecord 4 (fields vs)) (sym (take-two rows (10 * i) (rankAt ranks rows i) (omega arith)))
-
-  pub length-rowFields : rankAt ranks rows i ≤ 8 → length (rowFields ranks rows i) ≡ 4 + 2 * rankAt ranks rows i
-  length-rowFields small = rw (length-fields, length-take, length-drop) (omega arith)
-
-  pub length-rule : rankAt ranks rows i ≤ 8
-      → length (encodeRule (ruleAt ranks rows i)) ≡ 10 + 2 * rankAt ranks rows i
-  length-rule small =
-      omega (arith, ap length encodeRule-row, length-record 4 (rowFields ranks rows i), length-rowFields small)
+-- A head, the symbol, the target and then the children.
+pub over-rule : (u : Rule) (out : List ℕ) (at : ℕ) → at + length (encodeRule u) ≤ length out
+    → (symbol target : ℕ) (children : List ℕ) → symbol ≡ u .symbol → target ≡ u .target → children ≡ u .children
+    → (a b c d : List ℕ) → a ≡ over out at (bytes4 (2 + (4 + 2 * length children)) ++ bytes2 4) → b ≡ over a (at + 6) (bytes2 symbol)
+    → c ≡ over b (at + 8) (bytes2 target) → d ≡ over c (at + 10) (fields children) → d ≡ over out at (encodeRule u)
+unfolding encodeRule encodeRecord bytes4 bytes2 fields
+over-rule u out at fits symbol target children e f g a b c d p q r s =
+    let size = length-fields (u .children) in
+    let sized : 4 + 2 * length (u .children) ≡ length (fields (u .symbol ∷ u .target ∷ u .children)) = omega arith in
+    over-then out at _ c (at + 10) _ d
+    (over-then out at _ b (at + 8) _ c
+    (over-then out at _ a (at + 6) _ b (rw (g, sized) at p) (rw e at q) (omega arith) (omega arith))
+    (rw f at r) (omega arith) (omega arith))
+    (rw g at s) (omega arith) (omega arith)
 
 encodeRules-append : (us vs : List Rule) → encodeRules (us ++ vs) ≡ encodeRules us ++ encodeRules vs
 unfolding encodeRules
@@ -228,14 +189,13 @@ encodeRules-append [] vs = refl
 encodeRules-append (u ∷ us) vs =
     rw (encodeRules-append us vs) (sym (append-assoc (encodeRule u) (encodeRules us) (encodeRules vs)))
 
-pub rules-step : (f : ℕ → Rule) (i : ℕ)
-    → encodeRules (map f (from 0 (i + 1))) ≡ encodeRules (map f (from 0 i)) ++ encodeRule (f i)
+pub rules-step : (rows : List ℕ) (i : ℕ)
+    → encodeRules (rulesIn rows (i + 1)) ≡ encodeRules (rulesIn rows i) ++ encodeRule (ruleAt rows i)
 unfolding encodeRules
-rules-step f i = rw (from-step, zero-add, map-append, encodeRules-append, append-nil)
+rules-step rows i = rw (rules-next, encodeRules-append, append-nil)
 
-abbrev pub rules : (ℕ → Rule) → Run
-rules f = record
-    { upto = λ i. encodeRules (map f (from 0 i)); turn = λ i. encodeRule (f i); step = rules-step f }
+abbrev pub rules : List ℕ → Run
+rules rows = record { upto = λ i. encodeRules (rulesIn rows i); turn = λ i. encodeRule (ruleAt rows i); step = rules-step rows }
 
 -- A decoded table.
 
@@ -249,12 +209,6 @@ pub room-short : (bytes out : List ℕ) → length out < length bytes
 unfolding written writtenOver
 room-short bytes out h = rw (lt-leb (length bytes) (length out) h) (refl, refl)
 
-pub all-from : (P : Rule → Type 0) (f : ℕ → Rule) (i n : ℕ) → All P (map f (from i n)) → (j : ℕ) → j < n → P (f (i + j))
-unfolding from
-all-from P f i zero ps j h = absurd (omega arith)
-all-from P f i (suc n) (also p ps) zero h = rw add-zero p
-all-from P f i (suc n) (also p ps) (suc j) h = rw (add-suc, ← suc-add) (all-from P f (suc i) n ps j (omega arith))
-
 module _ (size : Size) (finals ranks rows : List ℕ) where
   abbrev pub size-record : List ℕ
   size-record = encodeRecord 1 (fields (size .states ∷ size .symbols ∷ size .rules ∷ []))
@@ -266,13 +220,13 @@ module _ (size : Size) (finals ranks rows : List ℕ) where
   finals-record = encodeRecord 3 (fields (keep (member finals) (from 0 (size .states))))
 
   abbrev pub rule-records : List ℕ
-  rule-records = encodeRules (map (ruleAt ranks rows) (from 0 (size .rules)))
+  rule-records = encodeRules (rulesIn rows (size .rules))
 
   module _ (h : size .symbols ≤ length ranks) where
     encode-records : encode (automatonIn size finals ranks rows)
         ≡ size-record ++ ranks-record ++ finals-record ++ rule-records
     unfolding encode automatonIn
-    encode-records = rw (length-take-le (size .symbols) ranks h, length-map, length-from) (simp append-assoc)
+    encode-records = rw (length-take-le (size .symbols) ranks h, rules-length) (simp append-assoc)
 
     length-first : length size-record ≡ 12
     length-first = rw (length-record, length-fields)
@@ -311,19 +265,10 @@ module _ (size : Size) (finals ranks rows : List ℕ) where
     unfolding automatonIn
     few-states = wf .states
 
+    pub few-symbols : size .symbols ≤ length ranks → size .symbols ≤ 256
+    unfolding automatonIn
+    few-symbols h = rw (length-take-le (size .symbols) ranks h) at (wf .symbols)
+
     pub few-rules : size .rules ≤ 1024
     unfolding automatonIn
-    few-rules = rw (length-map, length-from) at (wf .count)
-
-    pub row-fits : (i : ℕ) → i < size .rules → RowFits ranks rows i
-    unfolding automatonIn ruleAt
-    row-fits i h =
-        let u : WellFormedRule (automatonIn size finals ranks rows) (ruleAt ranks rows i) =
-        rw zero-add at (all-from _ (ruleAt ranks rows) 0 (size .rules) (wf .rules) i h) in
-        let symbol : ℕ = getD rows (10 * i) 0 in
-        let known : symbol < length (take (size .symbols) ranks) = u .symbol in
-        let below : symbol < size .symbols = omega (arith, length-take (size .symbols) ranks) in
-        record {
-          symbol = omega arith;
-          rank = rw (getD-take (size .symbols) ranks symbol 0 below) at (all-at (wf .ranks) symbol known);
-        }
+    few-rules = rw rules-length at (wf .count)

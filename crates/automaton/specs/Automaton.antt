@@ -1,7 +1,7 @@
 -- A nondeterministic bottom-up tree automaton (document 01: "table"), and when one is well-formed.
 use Prim.Native.Nat.{ℕ, _≤_, _<_}
 use mathlib.Core.Path.{_≡_}
-use mathlib.Core.List.{List}
+use mathlib.Core.List.{List, map}
 use lib.ListN.{length, getD}
 use Rattle.automaton.specs.Lists.{All, Rising}
 
@@ -10,6 +10,10 @@ pub record Rule : Type 0 where
   pub symbol : ℕ
   pub target : ℕ
   pub children : List ℕ
+
+-- A rule with new names for its states.
+unfoldable pub renamed : (ℕ → ℕ) → Rule → Rule
+renamed name u = record { symbol = u .symbol; target = name (u .target); children = map name (u .children) }
 
 -- States and symbols are numbered from 0; symbol i has the rank that stands at i. Rules are numbered as they stand.
 pub record Automaton : Type 0 where

@@ -1,14 +1,18 @@
 -- What the contracts of inner functions and of `put_bytes`, which is exported for the crates above, cite; no call for everybody cites any of it.
 -- Places that an array does not have, where `getD` would give its default, are ruled out by the bounds in the contracts that cite these.
-use Prim.Native.Nat.{ℕ, _*_, _≤_, _<_}
+use Prim.Native.Nat.{ℕ, _*_, _%_, _≤_, _<_}
+use mathlib.Core.Path.{_≡_}
 use mathlib.Core.List.{List}
-use lib.ListN.{length, drop, getD}
+use lib.ListN.{length, drop}
+use lib.Dec.{leb, ltb, eqb}
 use lib.Seq.{paste}
 use Rattle.automaton.specs.Refusal.{numberOf}
-use Rattle.automaton.specs.Bytes.{number2}
-use Rattle.automaton.specs.Record.{Opening, whole, nothing, opened}
-use Rattle.automaton.specs.Record as records
-use Rattle.automaton.specs.Read.{Read, found, refused}
+use Rattle.automaton.specs.Lists.{All, all, rising}
+use Rattle.automaton.specs.Bytes.{number2, numbers}
+use Rattle.automaton.specs.Record.{bodyOf}
+use Rattle.automaton.specs.Read.{Read, found, refused, _>>=_, _>>_, check}
+use Rattle.automaton.specs.Table.{due}
+use Rattle.automaton.specs.Row.{width}
 use Rattle.automaton.specs.declared.table.Size.{Size}
 use Rattle.automaton.specs.declared.table.Place.{Place}
 use Rattle.automaton.specs.declared.table.Place.the-variants as place
@@ -29,26 +33,45 @@ unfoldable pub verdictOf : Verdict → Read (Unit {0})
 verdictOf verdict.Passed = found tt
 verdictOf (verdict.Refused cause) = refused (numberOf cause)
 
--- Where the first record ends, or where the bytes end if none opens; and the bytes after.
-unfoldable pub endIn : Opening → List ℕ → ℕ
-endIn (whole kind end) b = end
-endIn nothing b = length b
-endIn (records.refused cause) b = length b
+-- The first three records of a table, each by itself: where it ends.
+unfoldable pub sizeEnd : List ℕ → Read ℕ
+sizeEnd b = do
+  end ← due 1 2 b
+  check (eqb (length (bodyOf b)) 6) 3
+  check (leb (number2 (bodyOf b)) 256) 4
+  check (leb (number2 (drop 2 (bodyOf b))) 256) 4
+  check (leb (number2 (drop 4 (bodyOf b))) 1024) 4
+  found end
 
-unfoldable pub firstEnd : List ℕ → ℕ
-firstEnd b = endIn (opened b) b
+unfoldable pub ranksEnd : ℕ → List ℕ → Read ℕ
+ranksEnd m b = do
+  end ← due 2 2 b
+  check (eqb (length (bodyOf b)) m) 3
+  check (all (λ (r : ℕ). leb r 8) (bodyOf b)) 4
+  found end
 
-unfoldable pub restOf : List ℕ → List ℕ
-restOf b = drop (firstEnd b) b
+unfoldable pub finalsEnd : ℕ → List ℕ → Read ℕ
+finalsEnd n b = do
+  end ← due 3 2 b
+  check (eqb (length (bodyOf b) % 2) 0) 3
+  check (all (λ (q : ℕ). ltb q n) (numbers (bodyOf b))) 5
+  check (rising (numbers (bodyOf b))) 6
+  found end
 
 -- The counts in the body of a table's first record.
 unfoldable pub sizeIn : List ℕ → Size
 sizeIn body = record { states = number2 body; symbols = number2 (drop 2 body); rules = number2 (drop 4 body) }
 
--- Row i names a symbol below 256 whose rank is at most 8.
-pub record RowFits (ranks table : List ℕ) (i : ℕ) : Type 0 where
-  pub symbol : getD table (10 * i) 0 < 256
-  pub rank : getD ranks (getD table (10 * i) 0) 0 ≤ 8
+-- A rule's body that was judged: an even number of bytes, 4 and two for each of at most eight children, and only numbers below 256.
+pub record RuleBody (b : List ℕ) : Type 0 where
+  pub some : 4 ≤ length b
+  pub few : length b ≤ 20
+  pub even : length b % 2 ≡ 0
+  pub low : All (λ (v : ℕ). v < 256) (numbers b)
+
+-- Room for a row to each rule that t may hold: a rule takes ten bytes at least.
+unfoldable pub RowsRoom : List ℕ → List ℕ → Type 0
+RowsRoom t rows = (k : ℕ) → k ≤ 1024 → 10 * k ≤ length t → width * k ≤ length rows
 
 -- A buffer with some bytes written over what stood from `at` on.
 unfoldable pub over : List ℕ → ℕ → List ℕ → List ℕ

@@ -6,6 +6,7 @@ pub mod Automaton
 pub mod Read
 pub mod Table
 pub mod StateSet
+pub mod Row
 pub mod Decoded
 pub mod Answers
 pub mod Inner

@@ -1,9 +1,9 @@
 -- A set of states: four 64-bit words, state q at bit q mod 64 of word q div 64.
 use Prim.Native.Nat.{ℕ, _/_, _%_, _^_}
 use mathlib.Core.List.{List, [], _∷_}
-use mathlib.Core.Bool.{Bool, cond}
+use mathlib.Core.Bool.{Bool, cond, _&&_}
 use lib.ListN.{getD}
-use lib.Bits.{bitOr, bitXor}
+use lib.Bits.{bitAnd, bitOr, bitXor}
 use lib.Dec.{eqb}
 
 -- Whether state q is in the set. A set has four words and a state is below 256, so the word is there, here and below.
@@ -21,7 +21,7 @@ emptySet = words (λ (i : ℕ). 0)
 unfoldable pub replaced : List ℕ → ℕ → ℕ → List ℕ
 replaced ws i w = words (λ (j : ℕ). cond (eqb j i) w (getD ws j 0))
 
--- The set with state q, without it, and the union of two sets.
+-- The set with state q, without it, the union and the common states of two sets, and whether they are the same.
 unfoldable pub withState : List ℕ → ℕ → List ℕ
 withState ws q = replaced ws (q / 64) (bitOr (getD ws (q / 64) 0) (2 ^ (q % 64)))
 
@@ -30,6 +30,13 @@ withoutState ws q = replaced ws (q / 64) (bitXor (bitOr (getD ws (q / 64) 0) (2 
 
 unfoldable pub unionOf : List ℕ → List ℕ → List ℕ
 unionOf ws vs = words (λ (i : ℕ). bitOr (getD ws i 0) (getD vs i 0))
+
+unfoldable pub meetOf : List ℕ → List ℕ → List ℕ
+meetOf ws vs = words (λ (i : ℕ). bitAnd (getD ws i 0) (getD vs i 0))
+
+unfoldable pub sameSet : List ℕ → List ℕ → Bool
+sameSet ws vs = eqb (getD ws 0 0) (getD vs 0 0) && (eqb (getD ws 1 0) (getD vs 1 0)
+    && (eqb (getD ws 2 0) (getD vs 2 0) && eqb (getD ws 3 0) (getD vs 3 0)))
 
 -- The set of the states of a list: each is added in turn.
 unfoldable pub withAll : List ℕ → List ℕ → List ℕ

@@ -1,41 +1,38 @@
-// A table decoded into arrays that the caller lends.
+// A table judged and, in the same pass, decoded into arrays that the caller lends for work.
 ghost use mathlib.Core.Path.{_≡_};
-ghost use mathlib.Core.List.{List, _++_};
-ghost use Prim.Native.Nat.{ℕ, _+_, _*_, _≤_, _<_};
-ghost use lib.ListN.{length, drop, getD};
-ghost use Rattle.automaton.specs.Record.{bodyOf};
+ghost use mathlib.Core.List.{List};
+ghost use Prim.Native.Nat.{ℕ, _≤_, _<_};
+ghost use lib.ListN.{length};
 ghost use Rattle.automaton.specs.Bytes.{numbers};
 ghost use Rattle.automaton.specs.Automaton.{Rule};
 ghost use Rattle.automaton.specs.Read.{found};
 ghost use Rattle.automaton.specs.Lists.{All};
 ghost use Rattle.automaton.specs.StateSet.{setOf};
-ghost use Rattle.automaton.specs.Inner.{firstEnd, restOf, over};
+ghost use Rattle.automaton.specs.Row.{rulesIn, Rows};
+ghost use Rattle.automaton.specs.Inner.{passing, verdictOf, RowsRoom};
 ghost use Rattle.automaton.specs.Table as table;
-ghost use Rattle.automaton.specs.Decoded as decoded;
+ghost use Rattle.automaton.specs.Decoded.{Decodes};
 use crate::bytes::number2;
-use crate::record::Opened;
 use crate::record::body;
-use crate::record::open;
+use crate::refusal::Refusal;
+use crate::row::put_row;
 use crate::set::StateSet;
 use crate::table::Judged;
-use crate::table::judge;
+use crate::table::Place;
+use crate::table::Size;
+use crate::table::Verdict;
+use crate::table::finals_end;
+use crate::table::judge_end;
+use crate::table::next_rule;
+use crate::table::ranks_end;
+use crate::table::size_end;
+use crate::table::size_in;
 use crate::writing::put_bytes;
 
 // What judging a table returns, and its final states: none where it is refused.
 pub struct Decoded {
     pub judged: Judged,
     pub finals: StateSet,
-}
-
-// Where the first record of `t` ends; all of `t` where no record opens.
-fn first_end(t: &[u8]) -> usize
-    ensures { λ r. ⌜ r ≡ firstEnd (now (t .entry)) ⌝ }
-{
-    let o = open(t);
-    let Opened::Record { kind: _, end } = o else {
-        return t.len();
-    };
-    end
 }
 
 // The set of the two-byte numbers of `b`.
@@ -46,81 +43,92 @@ fn set_of(b: &[u8]) -> StateSet
     let mut set = StateSet::empty();
     let mut i: usize = 0;
     while i + 1 < b.len() {
-        set = set.with(number2(b, i) as usize);
+        set = set.with(number2(b, i) as u8);
         i += 2;
     }
     set
 }
 
-// The ten numbers of a rule's body, at row i.
-fn put_row(b: &[u8], rows: &mut [u16], i: usize)
-    requires { ⌜ 10 * i + 10 ≤ length (now rows) ⌝ }
-    ensures { λ _. ⌜ now (rows .exit) ≡ over (now (rows .entry)) (10 * i) (decoded.padded 10 (numbers (now (b .entry)))) ⌝ }
-{
-    let mut j: usize = 0;
-    while j < 10 {
-        let v = field(b, 2 * j);
-        rows[10 * i + j] = v;
-        j += 1;
-    }
-}
-
-// The two-byte number from `at` on, or 0 past the end.
-fn field(b: &[u8], at: usize) -> u16
-    requires { ⌜ at ≤ 20 ⌝ }
-    ensures { λ r. ⌜ r ≡ getD (numbers (drop at (now (b .entry)))) 0 0 ⌝ }
-{
-    if at + 1 < b.len() { number2(b, at) } else { 0 }
-}
-
-// The rows of k rules.
-fn put_rows(t: &[u8], rows: &mut [u16], k: usize)
-    requires { ⌜ 10 * k ≤ length (now rows) ⌝ }
-    ensures { λ _. ⌜ ((n : ℕ) (ranks : List ℕ) (rules : List Rule) → table.judgeRules n ranks k (now (t .entry)) ≡ found rules
-        → now (rows .exit) ≡ decoded.rows rules ++ drop (10 * k) (now (rows .entry))) ⌝ }
+// k rules, and nothing after them; each rule's row is put as the rule passes.
+fn decode_rules(t: &[u8], n: usize, ranks: &[u8], k: usize, rows: &mut [u8]) -> Verdict
+    requires { ⌜ (n ≤ 256) × (k ≤ 1024) ⌝ }
+    requires { ⌜ (length (now ranks) ≤ 256) × All (λ (r : ℕ). r ≤ 8) (now ranks) ⌝ }
+    requires { ⌜ RowsRoom (now t) (now rows) ⌝ }
+    ensures { λ r. ⌜ verdictOf r ≡ passing (table.judgeRules n (now (ranks .entry)) k (now (t .entry))) ⌝ }
+    ensures { λ r. ⌜ ((rules : List Rule) → table.judgeRules n (now (ranks .entry)) k (now (t .entry)) ≡ found rules
+        → Rows (now (rows .exit)) k × (rulesIn (now (rows .exit)) k ≡ rules)) ⌝ }
 {
     let mut rest = t;
     let mut i: usize = 0;
     while i < k {
-        put_row(body(rest), rows, i);
-        let end = first_end(rest);
-        rest = &rest[end..];
-        i += 1;
+        match next_rule(rest, n, ranks) {
+            Place::Refused(cause) => return Verdict::Refused(cause),
+            Place::At(end) => {
+                put_row(body(rest), rows, i);
+                rest = &rest[end..];
+                i += 1;
+            }
+        }
+    }
+    judge_end(rest)
+}
+
+// A refused table.
+fn refused(cause: Refusal) -> Decoded
+    ensures { λ r. ⌜ r .judged ≡ Judged.Refused cause ⌝ }
+{
+    Decoded {
+        judged: Judged::Refused(cause),
+        finals: StateSet::empty(),
     }
 }
 
-// The final states, and the rows of the k rules after them.
-fn decode_finals(t: &[u8], rows: &mut [u16], k: usize) -> StateSet
-    requires { ⌜ All (λ (q : ℕ). q < 256) (numbers (bodyOf (now t))) ⌝ }
-    requires { ⌜ 10 * k ≤ length (now rows) ⌝ }
-    ensures { λ r. ⌜ r .words ≡ setOf (numbers (bodyOf (now (t .entry)))) ⌝ }
-    ensures { λ r. ⌜ ((n : ℕ) (ranks : List ℕ) (rules : List Rule) → table.judgeRules n ranks k (restOf (now (t .entry))) ≡ found rules
-        → now (rows .exit) ≡ decoded.rows rules ++ drop (10 * k) (now (rows .entry))) ⌝ }
+// The record of the final states, and the rules after it.
+fn decode_finals(t: &[u8], size: Size, ranks: &[u8], rows: &mut [u8]) -> Decoded
+    requires { ⌜ (size .states ≤ 256) × ((size .symbols ≡ length (now ranks)) × (size .rules ≤ 1024)) ⌝ }
+    requires { ⌜ (length (now ranks) ≤ 256) × All (λ (r : ℕ). r ≤ 8) (now ranks) ⌝ }
+    requires { ⌜ RowsRoom (now t) (now rows) ⌝ }
+    ensures { λ r. ⌜ Decodes (table.judgeFinals (size .states) (now (ranks .entry)) (size .rules) (now (t .entry))) r
+        (now (ranks .entry)) (now (rows .exit)) ⌝ }
 {
-    let end = first_end(t);
-    put_rows(&t[end..], rows, k);
-    set_of(body(t))
+    let end = match finals_end(t, size.states) {
+        Place::Refused(cause) => return refused(cause),
+        Place::At(end) => end,
+    };
+    match decode_rules(&t[end..], size.states, ranks, size.rules, rows) {
+        Verdict::Refused(cause) => refused(cause),
+        Verdict::Passed => Decoded {
+            judged: Judged::Table(size),
+            finals: set_of(body(t)),
+        },
+    }
 }
 
-// Judges a table and, where it is well-formed, decodes it: its final states into the answer, its ranks and its rules to the
-// start of the lent arrays. A refused table leaves both arrays as they are.
-pub fn decode(t: &[u8], ranks: &mut [u8; 256], rows: &mut [u16; 10240]) -> Decoded
-    ensures { λ r. ⌜ decoded.Decodes (now (t .entry)) r (now (ranks .entry)) (now (ranks .exit)) (now (rows .entry)) (now (rows .exit)) ⌝ }
+// The record of the ranks, and what is after it.
+fn decode_ranks(t: &[u8], size: Size, ranks: &mut [u8], rows: &mut [u8]) -> Decoded
+    requires { ⌜ (size .states ≤ 256) × ((size .symbols ≤ 256) × (size .rules ≤ 1024)) ⌝ }
+    requires { ⌜ (256 ≤ length (now ranks)) × RowsRoom (now t) (now rows) ⌝ }
+    ensures { λ r. ⌜ Decodes (table.judgeRanks (size .states) (size .symbols) (size .rules) (now (t .entry))) r
+        (now (ranks .exit)) (now (rows .exit)) ⌝ }
 {
-    let judged = judge(t);
-    let Judged::Table(size) = judged else {
-        return Decoded {
-            judged,
-            finals: StateSet::empty(),
-        };
-    };
-    let head_end = first_end(t);
-    let ranked = &t[head_end..];
-    let b = body(ranked);
-    put_bytes(ranks, 0, b, b.len());
-    let ranks_end = first_end(ranked);
-    Decoded {
-        judged,
-        finals: decode_finals(&ranked[ranks_end..], rows, size.rules),
+    match ranks_end(t, size.symbols) {
+        Place::Refused(cause) => refused(cause),
+        Place::At(end) => {
+            let b = body(t);
+            put_bytes(ranks, 0, b, b.len());
+            decode_finals(&t[end..], size, b, rows)
+        }
+    }
+}
+
+// Judges a table as `judge` does and, where it is well-formed, decodes it: its final states into the answer, its ranks and its rules to the
+// start of the lent arrays, which are for work: what a refused table leaves there means nothing.
+pub fn decode(t: &[u8], ranks: &mut [u8], rows: &mut [u8]) -> Decoded
+    requires { ⌜ (256 ≤ length (now ranks)) × RowsRoom (now t) (now rows) ⌝ }
+    ensures { λ r. ⌜ Decodes (table.judge (now (t .entry))) r (now (ranks .exit)) (now (rows .exit)) ⌝ }
+{
+    match size_end(t) {
+        Place::Refused(cause) => refused(cause),
+        Place::At(end) => decode_ranks(&t[end..], size_in(body(t)), ranks, rows),
     }
 }

@@ -1,11 +1,20 @@
 // Sets of states by value: each method hands a new set back.
 ghost use mathlib.Core.Path.{_≡_};
-ghost use Prim.Native.Nat.{_<_};
-ghost use Rattle.automaton.specs.StateSet.{member, emptySet, withState, withoutState, unionOf};
+ghost use mathlib.Core.Bool.{cond};
+ghost use Prim.Native.Nat.{_/_, _%_, _^_};
+ghost use lib.Dec.{eqb};
+ghost use Rattle.automaton.specs.StateSet.{member, emptySet, withState, withoutState, unionOf, meetOf, sameSet};
 
 // State q is bit q mod 64 of word q div 64.
 pub struct StateSet {
     pub words: [u64; 4],
+}
+
+// What state q adds to word w: its bit, or nothing where it stands in another word.
+fn bit_in(q: u8, w: u8) -> u64
+    ensures { λ r. ⌜ r ≡ cond (eqb w (q / 64)) (2 ^ (q % 64)) 0 ⌝ }
+{
+    if w == q / 64 { 1 << (q % 64) } else { 0 }
 }
 
 impl StateSet {
@@ -16,37 +25,46 @@ impl StateSet {
         StateSet { words: [0; 4] }
     }
 
-    // Whether state q, below 256, is in the set.
-    pub fn has(self, q: usize) -> bool
-        requires { ⌜ q < 256 ⌝ }
+    // Whether state q is in the set.
+    pub fn has(self, q: u8) -> bool
         ensures { λ r. ⌜ r ≡ member (self .words) q ⌝ }
     {
         let words = self.words;
-        (words[q / 64] >> (q % 64)) % 2 == 1
+        (words[(q / 64) as usize] >> (q % 64)) % 2 == 1
     }
 
-    // The set with state q, below 256.
-    pub fn with(self, q: usize) -> Self
-        requires { ⌜ q < 256 ⌝ }
+    // The set with state q.
+    pub fn with(self, q: u8) -> Self
         ensures { λ r. ⌜ r .words ≡ withState (self .words) q ⌝ }
     {
-        let mut words = self.words;
-        words[q / 64] = words[q / 64] | 1 << (q % 64);
-        StateSet { words }
+        let a = self.words;
+        StateSet {
+            words: [
+                a[0] | bit_in(q, 0),
+                a[1] | bit_in(q, 1),
+                a[2] | bit_in(q, 2),
+                a[3] | bit_in(q, 3),
+            ],
+        }
     }
 
-    // The set without state q, below 256.
-    pub fn without(self, q: usize) -> Self
-        requires { ⌜ q < 256 ⌝ }
+    // The set without state q.
+    pub fn without(self, q: u8) -> Self
         ensures { λ r. ⌜ r .words ≡ withoutState (self .words) q ⌝ }
     {
-        let mut words = self.words;
-        let bit = 1 << (q % 64);
-        words[q / 64] = (words[q / 64] | bit) ^ bit;
-        StateSet { words }
+        let a = self.words;
+        let b = [bit_in(q, 0), bit_in(q, 1), bit_in(q, 2), bit_in(q, 3)];
+        StateSet {
+            words: [
+                (a[0] | b[0]) ^ b[0],
+                (a[1] | b[1]) ^ b[1],
+                (a[2] | b[2]) ^ b[2],
+                (a[3] | b[3]) ^ b[3],
+            ],
+        }
     }
 
-    // The states of both sets.
+    // The states of either set.
     pub fn union(self, other: StateSet) -> Self
         ensures { λ r. ⌜ r .words ≡ unionOf (self .words) (other .words) ⌝ }
     {
@@ -55,5 +73,25 @@ impl StateSet {
         StateSet {
             words: [a[0] | b[0], a[1] | b[1], a[2] | b[2], a[3] | b[3]],
         }
+    }
+
+    // The states of both sets.
+    pub fn meet(self, other: StateSet) -> Self
+        ensures { λ r. ⌜ r .words ≡ meetOf (self .words) (other .words) ⌝ }
+    {
+        let a = self.words;
+        let b = other.words;
+        StateSet {
+            words: [a[0] & b[0], a[1] & b[1], a[2] & b[2], a[3] & b[3]],
+        }
+    }
+
+    // Whether the two sets are the same.
+    pub fn same(self, other: StateSet) -> bool
+        ensures { λ r. ⌜ r ≡ sameSet (self .words) (other .words) ⌝ }
+    {
+        let a = self.words;
+        let b = other.words;
+        a[0] == b[0] && a[1] == b[1] && a[2] == b[2] && a[3] == b[3]
     }
 }

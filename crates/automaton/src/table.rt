@@ -12,7 +12,7 @@ ghost use Rattle.automaton.specs.Record.{bodyOf};
 ghost use Rattle.automaton.specs.Table as table;
 ghost use Rattle.automaton.specs.Answers.{judgementOf};
 ghost use Rattle.automaton.specs.Decoded.{sized};
-ghost use Rattle.automaton.specs.Inner.{passing, placeOf, verdictOf, sizeIn};
+ghost use Rattle.automaton.specs.Inner.{passing, placeOf, verdictOf, sizeEnd, ranksEnd, finalsEnd, sizeIn};
 use crate::bytes::number2;
 use crate::record::Opened;
 use crate::record::body;
@@ -131,7 +131,7 @@ fn judge_rule(b: &[u8], n: usize, ranks: &[u8]) -> Verdict
 }
 
 // The next rule: where it ends.
-fn next_rule(t: &[u8], n: usize, ranks: &[u8]) -> Place
+pub fn next_rule(t: &[u8], n: usize, ranks: &[u8]) -> Place
     ensures { λ r. ⌜ placeOf r ≡ read._>>=_ (table.due 4 7 (now (t .entry)))
         (λ (end : ℕ). read._>>_ (table.judgeRule n (now (ranks .entry)) (bodyOf (now (t .entry)))) (read.found end)) ⌝ }
 {
@@ -146,7 +146,7 @@ fn next_rule(t: &[u8], n: usize, ranks: &[u8]) -> Place
 }
 
 // What stands after the last rule: nothing, or a cause of refusal.
-fn judge_end(t: &[u8]) -> Verdict
+pub fn judge_end(t: &[u8]) -> Verdict
     ensures { λ r. ⌜ verdictOf r ≡ passing (table.judgeRules 0 [] 0 (now (t .entry))) ⌝ }
 {
     if t.len() == 0 {
@@ -176,75 +176,72 @@ fn judge_rules(t: &[u8], n: usize, ranks: &[u8], k: usize) -> Verdict
     judge_end(rest)
 }
 
-// The record of the final states, and the rules after it.
-fn judge_finals(t: &[u8], n: usize, ranks: &[u8], k: usize) -> Verdict
-    ensures { λ r. ⌜ verdictOf r ≡ passing (table.judgeFinals n (now (ranks .entry)) k (now (t .entry))) ⌝ }
+// The record of the final states by itself: where it ends.
+pub fn finals_end(t: &[u8], n: usize) -> Place
+    ensures { λ r. ⌜ placeOf r ≡ finalsEnd n (now (t .entry)) ⌝ }
 {
-    let end = match due(t, 3, Refusal::WrongKind) {
-        Place::Refused(cause) => return Verdict::Refused(cause),
-        Place::At(end) => end,
+    let p = due(t, 3, Refusal::WrongKind);
+    let Place::At(end) = p else {
+        return p;
     };
     let b = body(t);
     if b.len() % 2 != 0 {
-        return Verdict::Refused(Refusal::WrongLength);
+        return Place::Refused(Refusal::WrongLength);
     }
     if !all_below(b, n) {
-        return Verdict::Refused(Refusal::OutOfRange);
+        return Place::Refused(Refusal::OutOfRange);
     }
     if !rising(b) {
-        return Verdict::Refused(Refusal::FinalsOutOfOrder);
+        return Place::Refused(Refusal::FinalsOutOfOrder);
     }
-    judge_rules(&t[end..], n, ranks, k)
+    Place::At(end)
 }
 
-// The record of the ranks, and what is after it.
-fn judge_ranks(t: &[u8], size: Size) -> Verdict
-    ensures { λ r. ⌜ verdictOf r ≡ passing (table.judgeRanks (size .states) (size .symbols) (size .rules) (now (t .entry))) ⌝ }
+// The record of the ranks of m symbols by itself: where it ends.
+pub fn ranks_end(t: &[u8], m: usize) -> Place
+    ensures { λ r. ⌜ placeOf r ≡ ranksEnd m (now (t .entry)) ⌝ }
 {
-    let end = match due(t, 2, Refusal::WrongKind) {
-        Place::Refused(cause) => return Verdict::Refused(cause),
-        Place::At(end) => end,
+    let p = due(t, 2, Refusal::WrongKind);
+    let Place::At(end) = p else {
+        return p;
     };
     let ranks = body(t);
-    if ranks.len() != size.symbols {
-        return Verdict::Refused(Refusal::WrongLength);
+    if ranks.len() != m {
+        return Place::Refused(Refusal::WrongLength);
     }
     if !all_ranks(ranks) {
-        return Verdict::Refused(Refusal::AboveLimit);
+        return Place::Refused(Refusal::AboveLimit);
     }
-    judge_finals(&t[end..], size.states, ranks, size.rules)
+    Place::At(end)
 }
 
-// Judges a table: its counts, or the first cause of refusal in document 01's order. It takes any bytes.
-pub fn judge(t: &[u8]) -> Judged
-    ensures { λ r. ⌜ judgementOf r ≡ sized (table.judge (now (t .entry))) ⌝ }
+// The record of the counts by itself: where it ends.
+pub fn size_end(t: &[u8]) -> Place
+    ensures { λ r. ⌜ placeOf r ≡ sizeEnd (now (t .entry)) ⌝ }
 {
-    let end = match due(t, 1, Refusal::WrongKind) {
-        Place::Refused(cause) => return Judged::Refused(cause),
-        Place::At(end) => end,
+    let p = due(t, 1, Refusal::WrongKind);
+    let Place::At(end) = p else {
+        return p;
     };
     let b = body(t);
     if b.len() != 6 {
-        return Judged::Refused(Refusal::WrongLength);
+        return Place::Refused(Refusal::WrongLength);
     }
     let size = size_in(b);
     if size.states > 256 {
-        return Judged::Refused(Refusal::AboveLimit);
+        return Place::Refused(Refusal::AboveLimit);
     }
     if size.symbols > 256 {
-        return Judged::Refused(Refusal::AboveLimit);
+        return Place::Refused(Refusal::AboveLimit);
     }
     if size.rules > 1024 {
-        return Judged::Refused(Refusal::AboveLimit);
+        return Place::Refused(Refusal::AboveLimit);
     }
-    match judge_ranks(&t[end..], size) {
-        Verdict::Refused(cause) => Judged::Refused(cause),
-        Verdict::Passed => Judged::Table(size),
-    }
+    Place::At(end)
 }
 
 // The counts in the first record's body.
-fn size_in(b: &[u8]) -> Size
+pub fn size_in(b: &[u8]) -> Size
     requires { ⌜ 6 ≤ length (now b) ⌝ }
     ensures { λ r. ⌜ r ≡ sizeIn (now (b .entry)) ⌝ }
 {
@@ -252,5 +249,40 @@ fn size_in(b: &[u8]) -> Size
         states: number2(b, 0) as usize,
         symbols: number2(b, 2) as usize,
         rules: number2(b, 4) as usize,
+    }
+}
+
+// The record of the final states, and the rules after it.
+fn judge_finals(t: &[u8], n: usize, ranks: &[u8], k: usize) -> Verdict
+    ensures { λ r. ⌜ verdictOf r ≡ passing (table.judgeFinals n (now (ranks .entry)) k (now (t .entry))) ⌝ }
+{
+    match finals_end(t, n) {
+        Place::Refused(cause) => Verdict::Refused(cause),
+        Place::At(end) => judge_rules(&t[end..], n, ranks, k),
+    }
+}
+
+// The record of the ranks, and what is after it.
+fn judge_ranks(t: &[u8], size: Size) -> Verdict
+    ensures { λ r. ⌜ verdictOf r ≡ passing (table.judgeRanks (size .states) (size .symbols) (size .rules) (now (t .entry))) ⌝ }
+{
+    match ranks_end(t, size.symbols) {
+        Place::Refused(cause) => Verdict::Refused(cause),
+        Place::At(end) => judge_finals(&t[end..], size.states, body(t), size.rules),
+    }
+}
+
+// Judges a table: its counts, or the first cause of refusal in document 01's order. It takes any bytes.
+pub fn judge(t: &[u8]) -> Judged
+    ensures { λ r. ⌜ judgementOf r ≡ sized (table.judge (now (t .entry))) ⌝ }
+{
+    let end = match size_end(t) {
+        Place::Refused(cause) => return Judged::Refused(cause),
+        Place::At(end) => end,
+    };
+    let size = size_in(body(t));
+    match judge_ranks(&t[end..], size) {
+        Verdict::Refused(cause) => Judged::Refused(cause),
+        Verdict::Passed => Judged::Table(size),
     }
 }

@@ -1,18 +1,22 @@
 // A decoded table written back into bytes. Each function that writes says which bytes stand where afterwards; the others stay.
 ghost use mathlib.Core.Path.{_≡_};
-ghost use mathlib.Core.List.{_∷_, [], _++_, map};
+ghost use mathlib.Core.List.{_∷_, [], _++_};
 ghost use Prim.Native.Nat.{ℕ, _+_, _*_, _≤_, _<_};
-ghost use lib.ListN.{length, take, drop};
+ghost use lib.ListN.{length, take};
 ghost use Rattle.automaton.specs.Lists.{from, keep};
 ghost use Rattle.automaton.specs.Bytes.{bytes2, bytes4, fields};
 ghost use Rattle.automaton.specs.Record.{encodeRecord};
 ghost use Rattle.automaton.specs.Automaton.{WellFormed};
 ghost use Rattle.automaton.specs.Table.{encode, encodeRule, encodeRules};
 ghost use Rattle.automaton.specs.StateSet.{member};
-ghost use Rattle.automaton.specs.Decoded as decoded;
+ghost use Rattle.automaton.specs.Row.{ruleAt, rulesIn, Row, Rows};
+ghost use Rattle.automaton.specs.Decoded.{automatonIn, written, writtenOver};
 ghost use Rattle.automaton.specs.Answers.{writingOf};
-ghost use Rattle.automaton.specs.Inner.{over, RowFits};
+ghost use Rattle.automaton.specs.Inner.{over};
 use crate::refusal::Refusal;
+use crate::row::children_of;
+use crate::row::symbol_of;
+use crate::row::target_of;
 use crate::set::StateSet;
 use crate::table::Size;
 
@@ -43,15 +47,14 @@ fn put_head(out: &mut [u8], at: usize, kind: u16, size: usize)
     put2(out, at + 4, kind);
 }
 
-// `count` numbers of `src` from index `start` on, two bytes each.
-fn put_fields(out: &mut [u8], at: usize, src: &[u16], start: usize, count: usize)
-    requires { ⌜ at + 2 * count ≤ length (now out) ⌝ }
-    requires { ⌜ start + count ≤ length (now src) ⌝ }
-    ensures { λ _. ⌜ now (out .exit) ≡ over (now (out .entry)) at (fields (take count (drop start (now (src .entry))))) ⌝ }
+// The bytes of `src` as numbers, two bytes each.
+fn put_fields(out: &mut [u8], at: usize, src: &[u8])
+    requires { ⌜ at + 2 * length (now src) ≤ length (now out) ⌝ }
+    ensures { λ _. ⌜ now (out .exit) ≡ over (now (out .entry)) at (fields (now (src .entry))) ⌝ }
 {
     let mut j: usize = 0;
-    while j < count {
-        put2(out, at + 2 * j, src[start + j]);
+    while j < src.len() {
+        put2(out, at + 2 * j, src[j] as u16);
         j += 1;
     }
 }
@@ -70,8 +73,7 @@ pub fn put_bytes(out: &mut [u8], at: usize, src: &[u8], count: usize)
 }
 
 // State q as two bytes if it is in the set; the answer is where the next one goes.
-fn put_state(out: &mut [u8], at: usize, set: StateSet, q: usize) -> usize
-    requires { ⌜ q < 256 ⌝ }
+fn put_state(out: &mut [u8], at: usize, set: StateSet, q: u8) -> usize
     requires { ⌜ at + length (fields (keep (member (set .words)) (q ∷ []))) ≤ length (now out) ⌝ }
     ensures { λ r. ⌜ r ≡ at + length (fields (keep (member (set .words)) (q ∷ []))) ⌝ }
     ensures { λ r. ⌜ now (out .exit) ≡ over (now (out .entry)) at (fields (keep (member (set .words)) (q ∷ []))) ⌝ }
@@ -92,7 +94,7 @@ fn put_states(out: &mut [u8], at: usize, set: StateSet, n: usize)
     let mut next = at;
     let mut q: usize = 0;
     while q < n {
-        next = put_state(out, next, set, q);
+        next = put_state(out, next, set, q as u8);
         q += 1;
     }
 }
@@ -105,7 +107,7 @@ fn count_states(set: StateSet, n: usize) -> usize
     let mut count: usize = 0;
     let mut q: usize = 0;
     while q < n {
-        if set.has(q) {
+        if set.has(q as u8) {
             count += 1;
         }
         q += 1;
@@ -114,51 +116,45 @@ fn count_states(set: StateSet, n: usize) -> usize
 }
 
 // Rule i as a record; the answer is where the next one goes.
-fn put_rule(out: &mut [u8], at: usize, ranks: &[u8; 256], rows: &[u16; 10240], i: usize) -> usize
-    requires { ⌜ i < 1024 ⌝ }
-    requires { ⌜ RowFits (now ranks) (now rows) i ⌝ }
-    requires { ⌜ at + length (encodeRule (decoded.ruleAt (now ranks) (now rows) i)) ≤ length (now out) ⌝ }
-    ensures { λ r. ⌜ r ≡ at + length (encodeRule (decoded.ruleAt (now (ranks .entry)) (now (rows .entry)) i)) ⌝ }
-    ensures { λ r. ⌜ now (out .exit) ≡ over (now (out .entry)) at
-        (encodeRule (decoded.ruleAt (now (ranks .entry)) (now (rows .entry)) i)) ⌝ }
+fn put_rule(out: &mut [u8], at: usize, rows: &[u8], i: usize) -> usize
+    requires { ⌜ Row (now rows) i ⌝ }
+    requires { ⌜ at + length (encodeRule (ruleAt (now rows) i)) ≤ length (now out) ⌝ }
+    ensures { λ r. ⌜ r ≡ at + length (encodeRule (ruleAt (now (rows .entry)) i)) ⌝ }
+    ensures { λ r. ⌜ now (out .exit) ≡ over (now (out .entry)) at (encodeRule (ruleAt (now (rows .entry)) i)) ⌝ }
 {
-    let symbol = rows[10 * i] as usize;
-    let rank = ranks[symbol] as usize;
-    put_head(out, at, 4, 4 + 2 * rank);
-    put_fields(out, at + 6, rows, 10 * i, 2 + rank);
-    at + 10 + 2 * rank
+    let children = children_of(rows, i);
+    put_head(out, at, 4, 4 + 2 * children.len());
+    put2(out, at + 6, symbol_of(rows, i) as u16);
+    put2(out, at + 8, target_of(rows, i) as u16);
+    put_fields(out, at + 10, children);
+    at + 10 + 2 * children.len()
 }
 
 // How many bytes k rules take.
-fn rules_length(ranks: &[u8], rows: &[u16], k: usize) -> usize
-    requires { ⌜ k ≤ 1024 ⌝ }
-    requires { ⌜ (256 ≤ length (now ranks)) × (10 * k ≤ length (now rows)) ⌝ }
-    requires { ⌜ ((i : ℕ) → i < k → RowFits (now ranks) (now rows) i) ⌝ }
-    ensures { λ r. ⌜ r ≡ length (encodeRules (map (decoded.ruleAt (now (ranks .entry)) (now (rows .entry))) (from 0 k))) ⌝ }
+fn rules_length(rows: &[u8], k: usize) -> usize
+    requires { ⌜ Rows (now rows) k ⌝ }
+    ensures { λ r. ⌜ r ≡ length (encodeRules (rulesIn (now (rows .entry)) k)) ⌝ }
     ensures { λ r. ⌜ r ≤ 26 * k ⌝ }
 {
     let mut total: usize = 0;
     let mut i: usize = 0;
     while i < k {
-        let symbol = rows[10 * i] as usize;
-        total += 10 + 2 * (ranks[symbol] as usize);
+        total += 10 + 2 * children_of(rows, i).len();
         i += 1;
     }
     total
 }
 
 // k rules, one after the other.
-fn put_rules(out: &mut [u8], at: usize, ranks: &[u8; 256], rows: &[u16; 10240], k: usize)
-    requires { ⌜ k ≤ 1024 ⌝ }
-    requires { ⌜ ((i : ℕ) → i < k → RowFits (now ranks) (now rows) i) ⌝ }
-    requires { ⌜ at + length (encodeRules (map (decoded.ruleAt (now ranks) (now rows)) (from 0 k))) ≤ length (now out) ⌝ }
-    ensures { λ _. ⌜ now (out .exit) ≡ over (now (out .entry)) at
-        (encodeRules (map (decoded.ruleAt (now (ranks .entry)) (now (rows .entry))) (from 0 k))) ⌝ }
+fn put_rules(out: &mut [u8], at: usize, rows: &[u8], k: usize)
+    requires { ⌜ Rows (now rows) k ⌝ }
+    requires { ⌜ at + length (encodeRules (rulesIn (now rows) k)) ≤ length (now out) ⌝ }
+    ensures { λ _. ⌜ now (out .exit) ≡ over (now (out .entry)) at (encodeRules (rulesIn (now (rows .entry)) k)) ⌝ }
 {
     let mut next = at;
     let mut i: usize = 0;
     while i < k {
-        next = put_rule(out, next, ranks, rows, i);
+        next = put_rule(out, next, rows, i);
         i += 1;
     }
 }
@@ -177,8 +173,8 @@ fn put_size(out: &mut [u8], size: Size)
 }
 
 // The second record: the ranks of m symbols.
-fn put_ranks(out: &mut [u8], at: usize, ranks: &[u8; 256], m: usize)
-    requires { ⌜ m ≤ 256 ⌝ }
+fn put_ranks(out: &mut [u8], at: usize, ranks: &[u8], m: usize)
+    requires { ⌜ (m ≤ 256) × (m ≤ length (now ranks)) ⌝ }
     requires { ⌜ at + 6 + m ≤ length (now out) ⌝ }
     ensures { λ _. ⌜ now (out .exit) ≡ over (now (out .entry)) at (encodeRecord 2 (take m (now (ranks .entry)))) ⌝ }
 {
@@ -200,31 +196,26 @@ fn put_finals(out: &mut [u8], at: usize, set: StateSet, n: usize, count: usize)
 
 // Writes a decoded table to the start of `out` and returns its length; refusal 13, and nothing written, where the room is short.
 // The arrays must hold a well-formed automaton, as `decode` leaves them; states of the set that are not below `size.states` are none.
-pub fn write(
-    size: Size,
-    finals: StateSet,
-    ranks: &[u8; 256],
-    rows: &[u16; 10240],
-    out: &mut [u8],
-) -> Written
-    requires { ⌜ size .symbols ≤ 256 ⌝ }
-    requires { ⌜ WellFormed (decoded.automatonIn size (finals .words) (now ranks) (now rows)) ⌝ }
-    ensures { λ r. ⌜ writingOf r ≡ decoded.written
-        (encode (decoded.automatonIn size (finals .words) (now (ranks .entry)) (now (rows .entry)))) (now (out .entry)) ⌝ }
-    ensures { λ r. ⌜ now (out .exit) ≡ decoded.writtenOver
-        (encode (decoded.automatonIn size (finals .words) (now (ranks .entry)) (now (rows .entry)))) (now (out .entry)) ⌝ }
+pub fn write(size: Size, finals: StateSet, ranks: &[u8], rows: &[u8], out: &mut [u8]) -> Written
+    requires { ⌜ size .symbols ≤ length (now ranks) ⌝ }
+    requires { ⌜ Rows (now rows) (size .rules) ⌝ }
+    requires { ⌜ WellFormed (automatonIn size (finals .words) (now ranks) (now rows)) ⌝ }
+    ensures { λ r. ⌜ writingOf r
+        ≡ written (encode (automatonIn size (finals .words) (now (ranks .entry)) (now (rows .entry)))) (now (out .entry)) ⌝ }
+    ensures { λ r. ⌜ now (out .exit)
+        ≡ writtenOver (encode (automatonIn size (finals .words) (now (ranks .entry)) (now (rows .entry)))) (now (out .entry)) ⌝ }
 {
     let n = size.states;
     let m = size.symbols;
     let k = size.rules;
     let count = count_states(finals, n);
-    let length = 24 + m + 2 * count + rules_length(ranks, rows, k);
+    let length = 24 + m + 2 * count + rules_length(rows, k);
     if out.len() < length {
         return Written::Refused(Refusal::ShortOutput);
     }
     put_size(out, size);
     put_ranks(out, 12, ranks, m);
     put_finals(out, 18 + m, finals, n, count);
-    put_rules(out, 24 + m + 2 * count, ranks, rows, k);
+    put_rules(out, 24 + m + 2 * count, rows, k);
     Written::Bytes(length)
 }

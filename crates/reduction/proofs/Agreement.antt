@@ -7,7 +7,7 @@ use mathlib.Core.Bool.{Bool, true, false, not, true≢false}
 use lib.Dec.{eqb}
 use borrow.Author.Tests.{eq-eqb, eqb-true}
 use Rattle.automaton.specs.Lists.{Distinct}
-use Rattle.automaton.specs.Automaton.{Rule, Automaton, WellFormed}
+use Rattle.automaton.specs.Automaton.{Rule, renamed, Automaton, WellFormed}
 use Rattle.automaton.proofs.Keeping.{keep-in, keep-out}
 use Rattle.automaton.proofs.Distinctness.{keep-distinct}
 use Rattle.simulation.specs.Tree.{Tree}
@@ -19,7 +19,7 @@ use Rattle.simulation.proofs.Refinement.{Within, paired-each, each-paired}
 use Rattle.simulation.proofs.Language.{each-map, each-compose, simulates-reaches, simulates-compose}
 use Rattle.simulation.proofs.Preorder.{preorder-simulates, preorder-states}
 use Rattle.reduction.specs.Steps.{Stage, trimmed, below, representative, quotient, dominatedBy, dominated, pruned, kept, restricted}
-use Rattle.reduction.specs.Steps.{renamed, sameStates, position, numbered}
+use Rattle.reduction.specs.Steps.{sameStates, position, numbered}
 use Rattle.reduction.specs.Reduce.{shortened, reduce}
 use Rattle.reduction.specs.Irreducible.{Irreducible}
 use Rattle.reduction.specs.Inner.{Sound}

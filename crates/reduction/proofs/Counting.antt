@@ -8,16 +8,16 @@ use lib.ListN.{length, getD, length-map}
 use lib.Dec.{eqb}
 use borrow.Author.Tests.{eqb-true, ne-eqb}
 use Rattle.automaton.specs.Lists.{All, none, also, Rising, from, keep}
-use Rattle.automaton.specs.Automaton.{Rule, Automaton, WellFormed, WellFormedRule}
+use Rattle.automaton.specs.Automaton.{Rule, renamed, Automaton, WellFormed, WellFormedRule}
 use Rattle.automaton.specs.Table.{encodeRule, encodeRules, encode}
 use Rattle.automaton.proofs.Fields.{length-fields}
 use Rattle.automaton.proofs.Records.{length-record-more}
-use Rattle.automaton.proofs.WrittenBytes.{length-from}
+use Rattle.automaton.proofs.Ranges.{length-from}
 use Rattle.automaton.proofs.Keeping.{keep-out, keep-shorter}
 use Rattle.simulation.specs.Tree.{any}
 use Rattle.simulation.proofs.Preorder.{all-member}
 use Rattle.reduction.specs.Steps.{Stage, among, foundIn, closure, buildable, productive, trimmed, below, representative}
-use Rattle.reduction.specs.Steps.{renamed, firsts, quotient, pruned, needed, kept, restricted, position, numbered}
+use Rattle.reduction.specs.Steps.{firsts, quotient, pruned, needed, kept, restricted, position, numbered}
 use Rattle.reduction.specs.Reduce.{shortened, reduce}
 use Rattle.reduction.proofs.Members.{rising-rest, rising-above}
 use Rattle.reduction.proofs.Trimming.{trimmed-sound}

@@ -7,7 +7,7 @@ use mathlib.Core.List.{List, [], _∷_, _++_}
 use mathlib.Core.Bool.{true, false}
 use lib.ListN.{length, drop}
 use Rattle.automaton.specs.Lists.{all, rising, risingFrom, from, keep}
-use Rattle.automaton.specs.Automaton.{Automaton}
+use Rattle.automaton.specs.Automaton.{Automaton, renamed}
 use Rattle.automaton.specs.Read.{found, refused, _>>=_, _>>_, check}
 use Rattle.automaton.specs.Bytes.{number2, number4, numbers, bytes2, bytes4, fields}
 use Rattle.automaton.specs.Record.{endOf, isWhole, opened, bodyIn, bodyOf, encodeRecord}
@@ -25,7 +25,7 @@ use Rattle.simulation.specs.Query.{pairQuery, yes, rule, comparisonOf, Compares
 use Rattle.simulation.specs.declared.query.Compared.{Compared}
 use Rattle.simulation.proofs.Comparing.{unmatchedFirst, unmatchedNumbers, NamesOne, compares-iff-yes, compares-iff-unmatched}
 use Rattle.reduction.specs.Steps.{among, foundIn, closure, buildable, productive, namesOnly, trimmed, below, roundsIn}
-use Rattle.reduction.specs.Steps.{equivalent, firstOf, representative, renamed, sameStates, sameRule, firsts, quotient, dominatedBy, dominated, pruned}
+use Rattle.reduction.specs.Steps.{equivalent, firstOf, representative, sameStates, sameRule, firsts, quotient, dominatedBy, dominated, pruned}
 use Rattle.reduction.specs.Steps.{needed, kept, restricted, position, numbered}
 use Rattle.reduction.specs.Reduce.{shortened, reduce, reductionRounds, reduction, reductionAfter}
 use Rattle.reduction.specs.Report.{decimalIn, decimal, numbersIn, line, refusedWord, reducedWord, statesWord, rulesWord, roundsWord}

@@ -1,5 +1,5 @@
 -- Of equal rules the first stays: no rule is lost, none stands twice, and a list without equal rules stays as it is.
-use Prim.Native.Nat.{ℕ, zero, suc, _+_}
+use Prim.Native.Nat.{ℕ, zero, suc}
 use native.Mathlib.Nat.{zero-add}
 use native.Mathlib.Numerals.{add-one}
 use mathlib.Core.Path.{_≡_, refl, sym, ap, _∙_}
@@ -9,8 +9,8 @@ use Rattle.automaton.specs.Lists.{Distinct, bare, new, from, keep}
 use Rattle.automaton.specs.Automaton.{Rule}
 use Rattle.automaton.proofs.Keeping.{keep-both, keep-agree, keep-all, keep-in, keep-out}
 use Rattle.automaton.proofs.Distinctness.{keep-distinct}
+use Rattle.automaton.proofs.Ranges.{from-step}
 use Rattle.simulation.specs.Tree.{any}
-use Rattle.simulation.proofs.Ranges.{from-append}
 use Rattle.reduction.specs.Steps.{sameRule, firsts}
 use Rattle.reduction.proofs.Members.{same-rule-out, same-rule-refl}
 
@@ -64,10 +64,6 @@ any-append test (x ∷ xs) ys = go (test x) (any-append test xs ys)
     go true e = refl
     go false e = e
 
-from-next : (i : ℕ) → from 0 (suc i) ≡ from 0 i ++ (i ∷ [])
-unfolding from
-from-next i = ap (from 0) (sym (add-one i)) ∙ from-append 0 i 1 ∙ ap (λ (j : ℕ). from 0 i ++ (j ∷ [])) (zero-add i)
-
 module _ (f : ℕ → Rule) where
   -- Rule i is new, and so is a rule that stands after i.
   isNew : ℕ → Bool
@@ -79,7 +75,7 @@ module _ (f : ℕ → Rule) where
   unseen-next : (i : ℕ) (v : Rule) → (not (sameRule (f i) v) && unseen i v) ≡ unseen (suc i) v
   unfolding unseen any
   unseen-next i v =
-      rw (from-next i, any-append (λ (j : ℕ). sameRule (f j) v) (from 0 i) (i ∷ []))
+      rw (← add-one i, from-step 0 i, zero-add, any-append (λ (j : ℕ). sameRule (f j) v) (from 0 i) (i ∷ []))
       (go (any (λ (j : ℕ). sameRule (f j) v) (from 0 i)) (sameRule (f i) v))
     where
       go : (s t : Bool) → (not t && not s) ≡ not (s || (t || false))
@@ -104,6 +100,7 @@ module _ (f : ℕ → Rule) where
       go true e = ap (λ (l : List Rule). f i ∷ l) e
       go false e = e
 
-  pub firsts-places : (n : ℕ) → map f (keep (λ (i : ℕ). not (any (λ (j : ℕ). sameRule (f j) (f i)) (from 0 i))) (from 0 n)) ≡ firsts (map f (from 0 n))
+  pub firsts-places : (n : ℕ)
+      → map f (keep (λ (i : ℕ). not (any (λ (j : ℕ). sameRule (f j) (f i)) (from 0 i))) (from 0 n)) ≡ firsts (map f (from 0 n))
   unfolding isNew unseen from any
   firsts-places n = new-firsts n 0 ∙ keep-all (unseen 0) (firsts (map f (from 0 n))) (λ v m. refl)

@@ -9,17 +9,15 @@ use lib.ListN.{getD}
 use lib.Dec.{eqb}
 use borrow.Author.Tests.{eq-eqb}
 use Rattle.automaton.specs.Lists.{Rising, from}
-use Rattle.automaton.specs.Automaton.{Rule, Automaton, WellFormed, WellFormedRule}
-use Rattle.automaton.proofs.WrittenBytes.{length-from}
+use Rattle.automaton.specs.Automaton.{Rule, renamed, Automaton, WellFormed, WellFormedRule}
 use Rattle.automaton.proofs.Keeping.{keep-all}
 use Rattle.simulation.specs.Run.{Run, Runs, at, none, also, root, roots, treeOf, IsRun, AreRuns, Occurs, OccursIn, Useful}
 use Rattle.simulation.specs.Simulation.{Relation}
 use Rattle.simulation.specs.Query.{simulationOf}
-use Rattle.automaton.proofs.Ranges.{from-rising}
-use Rattle.simulation.proofs.Ranges.{from-member, member-from}
+use Rattle.automaton.proofs.Ranges.{from-rising, length-from, from-member, member-from}
 use Rattle.simulation.proofs.Preorder.{all-member}
 use Rattle.simulation.proofs.Search.{and-true-in}
-use Rattle.reduction.specs.Steps.{Stage, among, buildable, productive, namesOnly, trimmed, below, representative, renamed, firsts}
+use Rattle.reduction.specs.Steps.{Stage, among, buildable, productive, namesOnly, trimmed, below, representative, firsts}
 use Rattle.reduction.specs.Steps.{quotient, dominated, pruned, kept, restricted, position, numbered}
 use Rattle.reduction.specs.Reduce.{shortened, reduce}
 use Rattle.reduction.specs.Irreducible.{Irreducible}

@@ -11,7 +11,6 @@ pub mod Counting
 pub mod Usefulness
 pub mod Agreement
 pub mod Fixpoint
-pub mod Compaction
 pub mod Naming
 pub mod Overwriting
 pub mod Renaming

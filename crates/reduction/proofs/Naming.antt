@@ -9,8 +9,7 @@ use lib.ListN.{length, length-append}
 use borrow.Author.Tests.{eq-eqb, ne-eqb}
 use Rattle.automaton.specs.Lists.{from, keep}
 use Rattle.automaton.proofs.WrittenBytes.{keep-step, keep-in, keep-out}
-use Rattle.simulation.specs.Simulation.{Relation}
-use Rattle.simulation.specs.Words.{relationWords}
+use Rattle.simulation.specs.Words.{relationIn}
 use Rattle.reduction.specs.Steps.{equivalent, firstOf, position}
 
 -- The search from r on.
@@ -26,7 +25,7 @@ module _ (test : ℕ → Bool) (n r : ℕ) (h : r < n) where
 -- State v is the representative of q.
 abbrev pub Represents : List ℕ → ℕ → ℕ → Type 0
 Represents words q v =
-    (v ≤ q) × ((R : Relation) → words ≡ relationWords R → equivalent R q q ≡ true → v ≡ firstOf (equivalent R q) (from 0 256))
+    (v ≤ q) × (equivalent (relationIn words) q q ≡ true → v ≡ firstOf (equivalent (relationIn words) q) (from 0 256))
 
 -- Members below q + 1.
 

@@ -3,17 +3,17 @@ use Prim.Native.Nat.{ℕ, zero, suc, _<_}
 use native.Mathlib.Omega.{arith}
 use mathlib.Core.Path.{_≡_, refl, sym, ap, ap₂, _∙_}
 use mathlib.Core.List.{List, [], _∷_, map, List·Memᴰ, List·Memᴰ·head, List·Memᴰ·tail}
-use mathlib.Core.List.{Memᴰ·cast, Memᴰ·map, Memᴰ·of-map}
+use mathlib.Core.List.{Memᴰ·map, Memᴰ·of-map}
 use mathlib.Core.Bool.{Bool, true, false, cond}
 use lib.ListN.{length, getD}
 use lib.Dec.{eqb}
 use borrow.Author.Tests.{eq-eqb, eqb-true, ne-eqb}
 use Rattle.automaton.specs.Lists.{Rising, empty, Distinct}
-use Rattle.automaton.specs.Automaton.{Rule}
+use Rattle.automaton.specs.Automaton.{Rule, renamed}
 use Rattle.automaton.proofs.Distinctness.{distinct-map}
 use Rattle.simulation.specs.Simulation as simulation
 use Rattle.simulation.specs.Simulation.{Each, Simulates}
-use Rattle.reduction.specs.Steps.{Stage, renamed, position, numbered}
+use Rattle.reduction.specs.Steps.{Stage, position, numbered}
 use Rattle.reduction.specs.Inner.{Sound}
 use Rattle.reduction.proofs.Quotient.{each-named}
 use Rattle.reduction.proofs.Members.{rising-rest, rising-above, rising-add}

@@ -1,86 +1,83 @@
--- Numbers written over others: what stands before and after them stays. A rule depends only on the ten numbers of its row.
-use Prim.Native.Nat.{ℕ, zero, suc, _+_, _-_, _*_, _≤_, _<_}
-use native.Mathlib.Nat.{add-zero}
+-- Rules written in front over others: the first rows hold the new rules, and the rows that are still to be read hold the old ones.
+use Prim.Native.Nat.{ℕ, _+_, _≤_, _<_}
 use native.Mathlib.Omega.{arith}
 use mathlib.Core.Path.{_≡_, refl, sym, ap, _∙_}
-use mathlib.Core.List.{List, [], _∷_, _++_, append-assoc}
-use lib.ListN.{length, take, drop, getD, set}
-use lib.Seq.{length-take-le, take-length, take-take, take-append-le, drop-at, drop-drop, drop-paste}
-use lib.Seq.{getD-take, getD-drop}
-use Rattle.automaton.specs.Decoded.{ruleAt}
-use Rattle.automaton.specs.Inner.{over}
-use Rattle.automaton.proofs.WrittenBytes.{over-copy}
-use Rattle.simulation.proofs.Parts.{length-part, part-at}
+use mathlib.Core.List.{List, [], _∷_, _++_, map, map-append, append-nil}
+use mathlib.Core.Bool.{Bool, true, false}
+use lib.ListN.{length, length-map}
+use Rattle.automaton.specs.Lists.{from, keep}
+use Rattle.automaton.specs.Automaton.{Rule, renamed}
+use Rattle.automaton.specs.Row.{ruleAt, rulesIn, Row, Rows, Puts}
+use Rattle.automaton.proofs.Rowing.{rules-length, rules-next}
+use Rattle.automaton.proofs.Filling.{rows-more, rules-more}
+use Rattle.automaton.proofs.WrittenBytes.{keep-step, keep-in, keep-out, kept-few}
 
-pub getD-first : (l : List ℕ) (m : ℕ) → getD l m 0 ≡ getD (drop m l) 0 0
-getD-first l m = rw (getD-drop, add-zero)
+-- The first n rows hold the rules us, and those from row i on are as before.
+pub record Overwritten (old : List ℕ) (us : List Rule) (i n : ℕ) (rows : List ℕ) : Type 0 where
+  pub as-long : length rows ≡ length old
+  pub held : Rows rows n
+  pub rules : rulesIn rows n ≡ us
+  pub rest : (j : ℕ) → i ≤ j → Row old j → Row rows j × (ruleAt rows j ≡ ruleAt old j)
 
-module _ (out : List ℕ) (at : ℕ) (xs : List ℕ) (room : at ≤ length out) where
-  pub over-front : (m : ℕ) → m ≤ at → take m (over out at xs) ≡ take m out
-  unfolding over
-  over-front m h =
-      let long : m ≤ length (take at out) = rw (length-take-le at out room) h in
-      rw (append-assoc, take-append-le m (take at out) _ long, take-take m at out h)
+none-written : (old : List ℕ) → Overwritten old [] 0 0 old
+unfolding rulesIn from
+none-written old = record {
+  as-long = refl;
+  held = record { count = omega arith; row = λ j h. absurd (omega arith) };
+  rules = refl;
+  rest = λ j h r. (r, refl);
+}
 
-  pub over-from : drop at (over out at xs) ≡ xs ++ drop (at + length xs) out
-  unfolding over
-  over-from = rw (append-assoc, drop-at (take at out) _ at (length-take-le at out room), take-length)
+module _ {old : List ℕ} {us : List Rule} {i n : ℕ} {rows : List ℕ} (w : Overwritten old us i n rows) where
+  row-passed : Overwritten old us (i + 1) n rows
+  row-passed = record { as-long = w .as-long; held = w .held; rules = w .rules; rest = λ j h. w .rest j (omega arith) }
 
-  pub over-rest : (m : ℕ) → at + length xs ≤ m → drop m (over out at xs) ≡ drop m out
-  unfolding over
-  over-rest m h =
-      let behind : ℕ = m - (at + length xs) in
-      let e : m ≡ at + length xs + behind = omega arith in
-      rw (e, ← drop-drop behind (at + length xs) (over out at xs), ← drop-drop behind (at + length xs) out)
-      (ap (drop behind) (drop-paste out at xs (length xs) room (omega arith)))
+  rule-written : n ≤ i → i < 1024 → {rows′ : List ℕ} {u : Rule} → Puts rows rows′ n u
+      → Overwritten old (us ++ (u ∷ [])) (i + 1) (n + 1) rows′
+  rule-written few low {u} p = record {
+    as-long = p .as-long ∙ w .as-long;
+    held = rows-more (w .held) p (omega arith);
+    rules = rules-more (w .held) p ∙ ap (λ (vs : List Rule). vs ++ (u ∷ [])) (w .rules);
+    rest = λ j h r.
+        let (row, same) = w .rest j (omega arith) r in
+        let (row′, same′) = p .others j (λ e. omega arith) row in
+        (row′, same′ ∙ same);
+  }
 
-  pub over-before : (m : ℕ) → m < at → getD (over out at xs) m 0 ≡ getD out m 0
-  over-before m h = rw (← getD-take at (over out at xs) m 0 h, over-front at (omega arith), getD-take at out m 0 h)
+-- The kept ones of the first i rules.
+module _ (test : ℕ → Bool) (old : List ℕ) where
+  abbrev pub Compacted : ℕ → ℕ → List ℕ → Type 0
+  Compacted i n rows = Overwritten old (map (ruleAt old) (keep test (from 0 i))) i n rows
 
-  pub over-later : (m : ℕ) → at + length xs ≤ m → getD (over out at xs) m 0 ≡ getD out m 0
-  over-later m h = rw (getD-first (over out at xs) m, over-rest m h, ← getD-first out m)
+  pub compacted-none : Compacted 0 0 old
+  unfolding keep from
+  compacted-none = none-written old
 
--- A row.
+  module _ {i n : ℕ} {rows : List ℕ} (w : Compacted i n rows) where
+    pub compacted-count : n ≡ length (keep test (from 0 i))
+    compacted-count = sym (rules-length rows n) ∙ ap length (w .rules) ∙ length-map (keep test (from 0 i)) (ruleAt old)
 
-abbrev pub rowAt : List ℕ → ℕ → List ℕ
-rowAt rows i = take 10 (drop (10 * i) rows)
+    pub compacted-few : n ≤ i
+    compacted-few = omega (arith, compacted-count, kept-few test i)
 
-pub part-of-part : (r k n : ℕ) (xs : List ℕ) → k + r ≤ n → take r (drop k (take n xs)) ≡ take r (drop k xs)
-part-of-part r zero n xs h = take-take r n xs (omega arith)
-part-of-part r (suc k) zero xs h = absurd (omega arith)
-part-of-part r (suc k) (suc n) [] h = refl
-part-of-part r (suc k) (suc n) (x ∷ xs) h = part-of-part r k n xs (omega arith)
+    pub compacted-skip : test i ≡ false → Compacted (i + 1) n rows
+    compacted-skip e = rw (keep-step, keep-out test i e, append-nil) (row-passed w)
 
--- The numbers of a row, and its children, from the row itself.
-module _ (rows : List ℕ) (i : ℕ) where
-  row-element : (j : ℕ) → j < 10 → getD rows (10 * i + j) 0 ≡ getD (rowAt rows i) j 0
-  row-element j h = rw (getD-take 10 (drop (10 * i) rows) j 0 h, getD-drop)
+    pub compacted-keep : test i ≡ true → i < 1024 → Row old i → {rows′ : List ℕ} → Puts rows rows′ n (ruleAt rows i)
+        → Compacted (i + 1) (n + 1) rows′
+    compacted-keep e low row p =
+        rw (keep-step, keep-in test i e, map-append, ← w .rest i (omega arith) row .1) (rule-written w compacted-few low p)
 
-  row-children : (r : ℕ) → r ≤ 8 → take r (drop (10 * i + 2) rows) ≡ take r (drop 2 (rowAt rows i))
-  row-children r h = rw (part-of-part r 2 10 (drop (10 * i) rows) (omega arith), drop-drop)
+-- The first i rules with new names.
+module _ (name : ℕ → ℕ) (old : List ℕ) where
+  abbrev pub Renamed : ℕ → List ℕ → Type 0
+  Renamed i rows = Overwritten old (map (renamed name) (rulesIn old i)) i i rows
 
-pub row-decides : (ranks a b : List ℕ) (i j : ℕ) → rowAt a i ≡ rowAt b j → getD ranks (getD b (10 * j) 0) 0 ≤ 8
-    → ruleAt ranks a i ≡ ruleAt ranks b j
-unfolding ruleAt
-row-decides ranks a b i j e low =
-    let element : (c : ℕ) → c < 10 → getD a (10 * i + c) 0 ≡ getD b (10 * j + c) 0 =
-    λ c h. row-element a i c h ∙ ap (λ (l : List ℕ). getD l c 0) e ∙ sym (row-element b j c h) in
-    let symbol : getD a (10 * i) 0 ≡ getD b (10 * j) 0 = simp add-zero at (element 0 (omega arith)) in
-    let rank : ℕ = getD ranks (getD b (10 * j) 0) 0 in
-    let children : take rank (drop (10 * i + 2) a) ≡ take rank (drop (10 * j + 2) b) =
-    row-children a i rank low ∙ ap (λ (l : List ℕ). take rank (drop 2 l)) e ∙ sym (row-children b j rank low) in
-    rw (symbol, element 1 (omega arith), children)
+  pub renamed-none : Renamed 0 old
+  unfolding rulesIn from
+  renamed-none = none-written old
 
--- A turn of the loop that copies a row to the front of where it stands.
-pub next-moved : (old : List ℕ) (i j : ℕ) → 10 * i + 10 ≤ length old → j ≤ i → (c : ℕ) → c < 10 → (now : List ℕ)
-    → now ≡ over old (10 * j) (take c (rowAt old i))
-    → set now (10 * j + c) (getD now (10 * i + c) 0) ≡ over old (10 * j) (take (c + 1) (rowAt old i))
-next-moved old i j room h c l now e =
-    let ten : length (rowAt old i) ≡ 10 = length-part old (10 * i) 10 room in
-    let long : length (take c (rowAt old i)) ≡ c = length-take-le c (rowAt old i) (omega arith) in
-    rw (
-      e,
-      over-later old (10 * j) (take c (rowAt old i)) (omega arith) (10 * i + c) (omega arith),
-      ← part-at old (10 * i) 10 room c l,
-    )
-    (over-copy old (10 * j) (rowAt old i) c (omega arith) (omega arith))
+  pub renamed-next : {i : ℕ} {rows : List ℕ} → Renamed i rows → i < 1024 → Row old i → {rows′ : List ℕ}
+      → Puts rows rows′ i (renamed name (ruleAt rows i)) → Renamed (i + 1) rows′
+  renamed-next {i} w low row p =
+      rw (rules-next, map-append, ← w .rest i (omega arith) row .1) (rule-written w (omega arith) low p)

@@ -1,38 +1,33 @@
 -- Passes over the rules that let a set of states grow: what one adds, and that the set ends as the closure, which lies between what
 -- some times find and what the set can hold.
-use Prim.Native.Nat.{ℕ, zero, suc, _+_, _*_, _≤_, _<_}
-use native.Mathlib.Nat.{zero-add}
+use Prim.Native.Nat.{ℕ, suc, _+_, _≤_, _<_}
 use native.Mathlib.Numerals.{add-one}
 use native.Mathlib.Omega.{arith}
 use mathlib.Core.Path.{_≡_, refl, sym, ap, _∙_}
 use mathlib.Core.Logic.{_⊎_, inl, inr}
-use mathlib.Core.List.{List, [], _∷_, _++_, map-append, List·Memᴰ, List·Memᴰ·head, List·Memᴰ·tail, List·Memᴰ·not-nil}
-use mathlib.Core.List.{Memᴰ·append-left, Memᴰ·append-right, List·Memᴰ·append-cases, List·Memᴰ·eq-of-singleton, Memᴰ·of-map}
+use mathlib.Core.List.{List, [], _∷_, List·Memᴰ, List·Memᴰ·not-nil}
+use mathlib.Core.List.{Memᴰ·append-left, List·Memᴰ·append-cases, List·Memᴰ·eq-of-singleton}
 use mathlib.Core.Bool.{Bool, true, false, _&&_, _||_, or-comm, or-assoc, or-false, and-true, and-false, false≢true}
-use lib.ListN.{length, take, drop, getD}
-use lib.Seq.{getD-drop}
+use lib.ListN.{length, drop, getD, drop-of-length-le}
+use lib.Seq.{drop-cons}
 use lib.Dec.{eqb}
 use borrow.Author.Tests.{eq-eqb, eqb-true}
 use Rattle.automaton.specs.Lists.{All, also, Rising, single, step, all, from}
 use Rattle.automaton.specs.Automaton.{Rule}
 use Rattle.automaton.specs.StateSet.{member, emptySet, withState}
-use Rattle.automaton.specs.Decoded.{ruleAt}
+use Rattle.automaton.specs.Row.{ruleAt, rulesIn}
+use Rattle.automaton.proofs.Fields.{Bytes}
+use Rattle.automaton.proofs.Ranges.{length-from, from-member}
+use Rattle.automaton.proofs.Rowing.{rule-in, rules-each, rules-next, rule-low}
 use Rattle.automaton.proofs.StateSets.{member-empty, member-with, same-test}
-use Rattle.automaton.proofs.WrittenBytes.{from-step, length-from}
 use Rattle.automaton.proofs.Keeping.{keep-out}
 use Rattle.simulation.specs.Tree.{any}
-use Rattle.simulation.specs.Words.{rulesIn}
-use Rattle.simulation.specs.Inner.{RowRanged, StatesBelow, Has}
-use Rattle.simulation.proofs.Search.{and-true-in, and-true-out, or-true-left, or-true-right, or-true-out}
-use Rattle.simulation.proofs.Ranges.{from-member, member-from}
-use Rattle.simulation.proofs.Ranged.{target-low}
-use Rattle.simulation.proofs.Queries.{ranged-children}
+use Rattle.simulation.specs.Inner.{Has}
+use Rattle.simulation.proofs.Search.{and-true-in, and-true-out, or-true-left, or-true-right, or-true-out, all-in, all-out}
 use Rattle.simulation.proofs.Preorder.{all-member}
 use Rattle.reduction.specs.Steps.{Stage, among, foundIn, closure, buildable, needed, kept}
 use Rattle.reduction.specs.Inner.{Sound, TargetsAdded, ChildrenAdded}
-use Rattle.simulation.proofs.Search.{all-in, all-out}
 use Rattle.reduction.proofs.Members.{among-in, among-out, same-bool}
-use Rattle.simulation.proofs.Parts.{part-step, part-end}
 use Rattle.reduction.proofs.Closure.{Monotone, closure-least, closure-closed, closure-found}
 use Rattle.reduction.proofs.Trimming.{buildable-in, buildable-out, buildable-monotone}
 use Rattle.reduction.proofs.Restricting.{Asked, needed-out, needed-monotone, finals-kept, children-kept}
@@ -54,125 +49,104 @@ pub children-out : (set children : List ℕ) {p : Bool} → p ≡ false
 children-out set children e q l = rw (e, or-false)
 
 -- The states from position j on are those that a set still lacks.
-module _ (rows : List ℕ) (at count : ℕ) where
-  abbrev pub StatesLeft : List ℕ → List ℕ → ℕ → Type 0
-  StatesLeft set grown j =
-      (q : ℕ) → q < 256 → (member set q || any (λ (p : ℕ). eqb p q) (take count (drop at rows)))
-      ≡ (member grown q || any (λ (p : ℕ). eqb p q) (drop j (take count (drop at rows))))
+module _ (states set : List ℕ) where
+  abbrev pub StatesLeft : List ℕ → ℕ → Type 0
+  StatesLeft grown j =
+      (q : ℕ) → q < 256 → (member set q || any (λ (p : ℕ). eqb p q) states)
+      ≡ (member grown q || any (λ (p : ℕ). eqb p q) (drop j states))
 
-  pub states-next : at + count ≤ length rows → (set grown : List ℕ) (j : ℕ) → j < count → StatesLeft set grown j
-      → StatesLeft set (withState grown (getD rows (at + j) 0)) (j + 1)
+  pub states-next : (grown : List ℕ) (j : ℕ) → j < length states → StatesLeft grown j
+      → StatesLeft (withState grown (getD states j 0)) (j + 1)
   unfolding any
-  states-next room set grown j h left q l =
+  states-next grown j h left q l =
       left q l
-      ∙ rw (part-step rows at count room j h, member-more grown (getD rows (at + j) 0) q l)
-      (sym (or-assoc (member grown q) (eqb (getD rows (at + j) 0) q) _))
+      ∙ rw (drop-cons states j 0 h, add-one, member-more grown (getD states j 0) q l)
+      (sym (or-assoc (member grown q) (eqb (getD states j 0) q) _))
 
-  pub states-none : at + count ≤ length rows → (set grown : List ℕ) (j : ℕ) → count ≤ j → StatesLeft set grown j
-      → Has grown (λ (q : ℕ). member set q || any (λ (p : ℕ). eqb p q) (take count (drop at rows)))
+  pub states-none : (grown : List ℕ) (j : ℕ) → length states ≤ j → StatesLeft grown j
+      → Has grown (λ (q : ℕ). member set q || any (λ (p : ℕ). eqb p q) states)
   unfolding any
-  states-none room set grown j h left q l = sym (left q l ∙ rw (part-end rows at count room j h, or-false))
+  states-none grown j h left q l = sym (left q l ∙ rw (drop-of-length-le states h, or-false))
 
 -- Rules, one by one.
 
-module _ (ranks rows : List ℕ) (i : ℕ) where
-  rules-step : rulesIn ranks rows (i + 1) ≡ rulesIn ranks rows i ++ (ruleAt ranks rows i ∷ [])
-  unfolding rulesIn
-  rules-step = rw (from-step, map-append, zero-add)
+module _ (rows : List ℕ) (i : ℕ) where
+  rules-old : {u : Rule} → List·Memᴰ u (rulesIn rows i) → List·Memᴰ u (rulesIn rows (i + 1))
+  rules-old m = rw rules-next (Memᴰ·append-left _ m)
 
-  rules-old : {u : Rule} → List·Memᴰ u (rulesIn ranks rows i) → List·Memᴰ u (rulesIn ranks rows (i + 1))
-  rules-old m = rw rules-step (Memᴰ·append-left _ m)
-
-  rules-new : List·Memᴰ (ruleAt ranks rows i) (rulesIn ranks rows (i + 1))
-  rules-new = rw rules-step (Memᴰ·append-right (rulesIn ranks rows i) (List·Memᴰ·head refl))
-
-  rules-cases : {u : Rule} → List·Memᴰ u (rulesIn ranks rows (i + 1))
-      → List·Memᴰ u (rulesIn ranks rows i) ⊎ (u ≡ ruleAt ranks rows i)
-  rules-cases m = go (List·Memᴰ·append-cases (rulesIn ranks rows i) (rw rules-step at m))
+  rules-cases : {u : Rule} → List·Memᴰ u (rulesIn rows (i + 1)) → List·Memᴰ u (rulesIn rows i) ⊎ (u ≡ ruleAt rows i)
+  rules-cases m = go (List·Memᴰ·append-cases (rulesIn rows i) (rw rules-next at m))
     where
-      go : {u : Rule} → List·Memᴰ u (rulesIn ranks rows i) ⊎ List·Memᴰ u (ruleAt ranks rows i ∷ [])
-          → List·Memᴰ u (rulesIn ranks rows i) ⊎ (u ≡ ruleAt ranks rows i)
+      go : {u : Rule} → List·Memᴰ u (rulesIn rows i) ⊎ List·Memᴰ u (ruleAt rows i ∷ [])
+          → List·Memᴰ u (rulesIn rows i) ⊎ (u ≡ ruleAt rows i)
       go (inl m) = inl m
       go (inr m) = inr (List·Memᴰ·eq-of-singleton m)
 
-take-low : (n : ℕ) (xs : List ℕ) → ((j : ℕ) → j < n → getD xs j 0 < 256) → (q : ℕ) → List·Memᴰ q (take n xs) → q < 256
-take-low zero xs h q m = absurd (List·Memᴰ·not-nil m)
-take-low (suc n) [] h q m = absurd (List·Memᴰ·not-nil m)
-take-low (suc n) (x ∷ xs) h q (List·Memᴰ·head e) = omega (arith, h 0 (omega arith))
-take-low (suc n) (x ∷ xs) h q (List·Memᴰ·tail m) = take-low n xs (λ j l. h (suc j) (omega arith)) q m
-
-module _ (ranks rows : List ℕ) (i : ℕ) (ranged : RowRanged ranks rows i) where
-  rule-target-low : ruleAt ranks rows i .target < 256
-  unfolding ruleAt
-  rule-target-low = target-low ranks rows i ranged
-
-  rule-children-low : (q : ℕ) → List·Memᴰ q (ruleAt ranks rows i .children) → q < 256
-  unfolding ruleAt StatesBelow
-  rule-children-low =
-      take-low (getD ranks (getD rows (10 * i) 0) 0) (drop (10 * i + 2) rows)
-      (λ j h. rw getD-drop (ranged-children ranged _ refl j h))
-
-pub rules-each : (P : Rule → Type 0) (ranks rows : List ℕ) (k : ℕ) → ((i : ℕ) → i < k → P (ruleAt ranks rows i))
-    → (u : Rule) → List·Memᴰ u (rulesIn ranks rows k) → P u
-unfolding rulesIn
-rules-each P ranks rows k h u m =
-    let (i, n, e) = Memᴰ·of-map (ruleAt ranks rows) (from 0 k) m in
-    let b = member-from k 0 i n in
-    rw (← e) (h i (omega arith))
-
 -- A pass over no rules adds nothing.
 
-pub targets-none : (ranks rows set : List ℕ) → TargetsAdded (rulesIn ranks rows 0) set set
+pub targets-none : (rows set : List ℕ) → TargetsAdded (rulesIn rows 0) set set
 unfolding rulesIn from
-targets-none ranks rows set = record {
+targets-none rows set = record {
   more = λ q l m. m;
   added = λ u m. absurd (List·Memᴰ·not-nil m);
   only = λ test start closed. start;
 }
 
-pub children-none : (ranks rows set : List ℕ) → ChildrenAdded (rulesIn ranks rows 0) set set
+pub children-none : (rows set : List ℕ) → ChildrenAdded (rulesIn rows 0) set set
 unfolding rulesIn from
-children-none ranks rows set = record {
+children-none rows set = record {
   more = λ q l m. m;
   added = λ u m. absurd (List·Memᴰ·not-nil m);
   only = λ test start closed. start;
 }
 
 -- A turn of each pass.
-module _ (ranks rows : List ℕ) (i : ℕ) (ranged : (j : ℕ) → j < i + 1 → RowRanged ranks rows j) (before grown after : List ℕ) where
+module _ (rows : List ℕ) (i : ℕ) (bytes : Bytes rows) (before grown after : List ℕ) where
   abbrev new : Rule
-  new = ruleAt ranks rows i
+  new = ruleAt rows i
 
-  new-low : (q : ℕ) → List·Memᴰ q (new .children) → q < 256
-  new-low = rule-children-low ranks rows i (ranged i (omega arith))
+  target-low : (u : Rule) → List·Memᴰ u (rulesIn rows (i + 1)) → u .target < 256
+  target-low = rules-each (λ (u : Rule). u .target < 256) rows (i + 1) (λ j h. rule-low rows j bytes .1)
 
-  pub targets-next : TargetsAdded (rulesIn ranks rows i) before grown
+  child-low : (u : Rule) → List·Memᴰ u (rulesIn rows (i + 1)) → (q : ℕ) → List·Memᴰ q (u .children) → q < 256
+  child-low =
+      rules-each (λ (u : Rule). (q : ℕ) → List·Memᴰ q (u .children) → q < 256) rows (i + 1)
+      (λ j h q. all-member (rule-low rows j bytes .2))
+
+  new-rule : List·Memᴰ new (rulesIn rows (i + 1))
+  new-rule = rule-in rows (i + 1) i (omega arith)
+
+  new-target-low : new .target < 256
+  new-target-low = target-low new new-rule
+
+  new-child-low : (q : ℕ) → List·Memᴰ q (new .children) → q < 256
+  new-child-low = child-low new new-rule
+
+  pub targets-next : TargetsAdded (rulesIn rows i) before grown
       → Has after (λ (q : ℕ). member grown q || (eqb (new .target) q && all (member grown) (new .children)))
-      → TargetsAdded (rulesIn ranks rows (i + 1)) before after
+      → TargetsAdded (rulesIn rows (i + 1)) before after
   targets-next a has =
       record {
         more = λ q l m. still q l (a .more q l m);
-        added = λ v m e. add v e (rules-cases ranks rows i m);
+        added = λ v m e. add v e (rules-cases rows i m);
         only = λ test start closed q l m.
-            let below = a .only test start (λ v n. closed v (rules-old ranks rows i n)) in
-            within test below (closed new (rules-new ranks rows i)) q l
+            let below = a .only test start (λ v n. closed v (rules-old rows i n)) in
+            within test below (closed new new-rule) q l
             (or-true-out (member grown q) (eqb (new .target) q && all (member grown) (new .children)) (sym (has q l) ∙ m));
       }
     where
       still : (q : ℕ) → q < 256 → member grown q ≡ true → member after q ≡ true
       still q l m = has q l ∙ or-true-left _ m
 
-      add : (v : Rule) → all (member before) (v .children) ≡ true → List·Memᴰ v (rulesIn ranks rows i) ⊎ (v ≡ new)
+      add : (v : Rule) → all (member before) (v .children) ≡ true → List·Memᴰ v (rulesIn rows i) ⊎ (v ≡ new)
           → member after (v .target) ≡ true
-      add v e (inl m) =
-          still (v .target) (rules-each (λ (w : Rule). w .target < 256) ranks rows i
-          (λ j h. rule-target-low ranks rows j (ranged j (omega arith))) v m) (a .added v m e)
+      add v e (inl m) = still (v .target) (target-low v (rules-old rows i m)) (a .added v m e)
       add v e (inr s) =
           rw s
-          (has (new .target) (rule-target-low ranks rows i (ranged i (omega arith)))
+          (has (new .target) new-target-low
           ∙ or-true-right (member grown (new .target))
           (and-true-in (eq-eqb (new .target) (new .target) refl)
-          (all-in (member grown) (new .children) (λ q n. a .more q (new-low q n) (all-out (member before) (rw s at e) q n)))))
+          (all-in (member grown) (new .children) (λ q n. a .more q (new-child-low q n) (all-out (member before) (rw s at e) q n)))))
 
       within : (test : ℕ → Bool) → ((q : ℕ) → q < 256 → member grown q ≡ true → test q ≡ true)
           → (all test (new .children) ≡ true → test (new .target) ≡ true) → (q : ℕ) → q < 256
@@ -181,37 +155,32 @@ module _ (ranks rows : List ℕ) (i : ℕ) (ranged : (j : ℕ) → j < i + 1 →
       within test below closed q l (inr b) =
           let s = and-true-out (eqb (new .target) q) (all (member grown) (new .children)) b in
           rw (← eqb-true (new .target) q (s .0))
-          (closed (all-in test (new .children) (λ p n. below p (new-low p n) (all-out (member grown) (s .1) p n))))
+          (closed (all-in test (new .children) (λ p n. below p (new-child-low p n) (all-out (member grown) (s .1) p n))))
 
-  pub children-next : ChildrenAdded (rulesIn ranks rows i) before grown
+  pub children-next : ChildrenAdded (rulesIn rows i) before grown
       → Has after (λ (q : ℕ). member grown q || (member grown (new .target) && any (λ (p : ℕ). eqb p q) (new .children)))
-      → ChildrenAdded (rulesIn ranks rows (i + 1)) before after
+      → ChildrenAdded (rulesIn rows (i + 1)) before after
   unfolding among
   children-next a has =
       record {
         more = λ q l m. still q l (a .more q l m);
-        added = λ v m e q n. add v e q n (rules-cases ranks rows i m);
+        added = λ v m e q n. add v e q n (rules-cases rows i m);
         only = λ test start closed q l m.
-            let below = a .only test start (λ v n. closed v (rules-old ranks rows i n)) in
-            within test below (closed new (rules-new ranks rows i)) q l
+            let below = a .only test start (λ v n. closed v (rules-old rows i n)) in
+            within test below (closed new new-rule) q l
             (or-true-out (member grown q) (member grown (new .target) && among (new .children) q) (sym (has q l) ∙ m));
       }
     where
-      target : new .target < 256
-      target = rule-target-low ranks rows i (ranged i (omega arith))
-
       still : (q : ℕ) → q < 256 → member grown q ≡ true → member after q ≡ true
       still q l m = has q l ∙ or-true-left _ m
 
       add : (v : Rule) → member before (v .target) ≡ true → (q : ℕ) → List·Memᴰ q (v .children)
-          → List·Memᴰ v (rulesIn ranks rows i) ⊎ (v ≡ new) → member after q ≡ true
-      add v e q n (inl m) =
-          still q (rules-each (λ (w : Rule). (p : ℕ) → List·Memᴰ p (w .children) → p < 256) ranks rows i
-          (λ j h. rule-children-low ranks rows j (ranged j (omega arith))) v m q n) (a .added v m e q n)
+          → List·Memᴰ v (rulesIn rows i) ⊎ (v ≡ new) → member after q ≡ true
+      add v e q n (inl m) = still q (child-low v (rules-old rows i m) q n) (a .added v m e q n)
       add v e q n (inr s) =
-          has q (new-low q (rw s at n))
+          has q (new-child-low q (rw s at n))
           ∙ or-true-right (member grown q)
-          (and-true-in (a .more (new .target) target (rw s at e)) (among-in (rw s at n)))
+          (and-true-in (a .more (new .target) new-target-low (rw s at e)) (among-in (rw s at n)))
 
       within : (test : ℕ → Bool) → ((q : ℕ) → q < 256 → member grown q ≡ true → test q ≡ true)
           → (test (new .target) ≡ true → (q : ℕ) → List·Memᴰ q (new .children) → test q ≡ true) → (q : ℕ) → q < 256
@@ -219,7 +188,7 @@ module _ (ranks rows : List ℕ) (i : ℕ) (ranged : (j : ℕ) → j < i + 1 →
       within test below closed q l (inl m) = below q l m
       within test below closed q l (inr b) =
           let s = and-true-out (member grown (new .target)) (among (new .children) q) b in
-          closed (below (new .target) target (s .0)) q (among-out (new .children) q (s .1))
+          closed (below (new .target) new-target-low (s .0)) q (among-out (new .children) q (s .1))
 
 -- Times of a closure.
 

@@ -8,18 +8,17 @@ use mathlib.Core.Bool.{Bool, true, false, cond}
 use lib.Dec.{eqb}
 use borrow.Author.Tests.{eq-eqb, eqb-true}
 use Rattle.automaton.specs.Lists.{All, Rising, Distinct, from, keep}
-use Rattle.automaton.specs.Automaton.{Rule}
+use Rattle.automaton.specs.Automaton.{Rule, renamed}
 use Rattle.automaton.proofs.Keeping.{keep-in, keep-out}
 use Rattle.simulation.specs.Tree.{any}
 use Rattle.simulation.specs.Simulation.{Each, none, also, Matched, Simulates, related}
 use Rattle.simulation.proofs.Search.{and-true-in, and-true-out, any-in, any-out}
-use Rattle.automaton.proofs.Ranges.{from-rising}
-use Rattle.simulation.proofs.Ranges.{from-member}
+use Rattle.automaton.proofs.Ranges.{from-rising, from-member}
 use Rattle.simulation.proofs.Preorder.{all-member}
 use Rattle.simulation.proofs.Refinement.{Within}
 use Rattle.simulation.proofs.Maximality as maximality
 use Rattle.simulation.proofs.Maximality.{Closed}
-use Rattle.reduction.specs.Steps.{Stage, below, equivalent, firstOf, representative, renamed, quotient}
+use Rattle.reduction.specs.Steps.{Stage, below, equivalent, firstOf, representative, quotient}
 use Rattle.reduction.specs.Inner.{Sound}
 use Rattle.reduction.proofs.Members.{same-bool, rising-rest, rising-above, rising-keep}
 use Rattle.reduction.proofs.Firsts.{firsts-in, firsts-out, firsts-distinct}

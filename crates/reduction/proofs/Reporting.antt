@@ -17,8 +17,10 @@ use Rattle.automaton.specs.declared.refusal.Refusal.the-variants.{BrokenRecord,
 use Rattle.automaton.specs.declared.refusal.Refusal.the-variants.{NotATree, UnknownSymbol, Unbalanced, TreeAboveLimit, UnknownState, ShortOutput}
 use Rattle.automaton.specs.declared.table.Size.{Size}
 use Rattle.automaton.proofs.Theorems.{judge-causes, judged-well-formed}
-use Rattle.automaton.proofs.Meaning.{Held}
-use Rattle.automaton.proofs.WrittenBytes.{length-from, over-behind, few-states, few-rules}
+use Rattle.automaton.proofs.Meaning.{Held, held-well-formed}
+use Rattle.automaton.proofs.Rowing.{rules-length}
+use Rattle.automaton.proofs.Ranges.{length-from}
+use Rattle.automaton.proofs.WrittenBytes.{over-behind, few-states, few-rules}
 use Rattle.simulation.proofs.Maximality.{Closed, rounds-below}
 use Rattle.reduction.specs.Steps.{buildable, productive, trimmed, roundsIn}
 use Rattle.reduction.specs.Reduce.{reduce, reductionRounds}
@@ -67,13 +69,10 @@ module _ (b : List ℕ) (size : Size) (finals ranks cells : List ℕ) (held : He
     (left : Size) (finals′ cells′ : List ℕ) (rounds : ℕ)
     (reduced : automatonIn left finals′ ranks cells′ ≡ reduce (automatonIn size finals ranks cells))
     (counted : rounds ≡ reductionRounds (automatonIn size finals ranks cells)) where
-  well-formed : WellFormed (automatonIn size finals ranks cells)
-  well-formed = rw (held .holds) (held .well-formed)
-
   pub counts-few : (size .states < 100000)
       × ((left .states < 100000) × ((size .rules < 100000) × ((left .rules < 100000) × (rounds < 100000))))
   counts-few =
-      let w = well-formed in
+      let w = held-well-formed held in
       let v : WellFormed (automatonIn left finals′ ranks cells′) = rw reduced (reduce-well-formed _ w) in
       let few = reduction-rounds-few _ w in (
         omega (arith, few-states _ _ _ _ w),
@@ -83,7 +82,7 @@ module _ (b : List ℕ) (size : Size) (finals ranks cells : List ℕ) (held : He
   pub report-found : reducedLines size left rounds ≡ reportOf (judge b)
   unfolding reducedLines reportOf automatonIn
   report-found =
-      rw (held .judged, ← held .holds, ← reduced, ← counted) (simp (length-map, length-from))
+      rw (held .judged, ← held .holds, ← reduced, ← counted, rules-length cells (size .rules), rules-length cells′ (left .rules))
 
 -- A report has at most 64 bytes.
 

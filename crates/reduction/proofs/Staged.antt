@@ -1,48 +1,40 @@
--- Stages in arrays: what the marked rows are, sets of states as rising lists, and that the rows of a sound stage are in range.
-use Prim.Native.Nat.{ℕ, zero, suc, _+_, _*_, _≤_, _<_}
-use native.Mathlib.Nat.{add-zero}
+-- Stages in arrays: what the marked rules are, sets of states as rising lists, and states that are below a bound.
+use Prim.Native.Nat.{ℕ, _≤_, _<_}
 use native.Mathlib.Omega.{arith}
-use mathlib.Core.Path.{_≡_, refl, sym, ap, _∙_}
-use mathlib.Core.List.{List, [], _∷_, map, List·Memᴰ, List·Memᴰ·head, List·Memᴰ·tail, Memᴰ·of-map}
+use mathlib.Core.Path.{_≡_, sym, ap, _∙_}
+use mathlib.Core.List.{List, map, List·Memᴰ}
 use mathlib.Core.Bool.{Bool}
-use lib.ListN.{length, take, drop, getD}
-use lib.Seq.{getD-take, getD-drop}
 use Rattle.automaton.specs.Lists.{Rising, from, keep}
 use Rattle.automaton.specs.Automaton.{Rule}
 use Rattle.automaton.specs.StateSet.{member}
-use Rattle.automaton.specs.Decoded.{ruleAt}
-use Rattle.automaton.proofs.WrittenBytes.{length-from}
-use Rattle.automaton.proofs.Keeping.{keep-agree, keep-in, keep-map, keep-out, keep-shorter}
-use Rattle.simulation.proofs.Ranged.{rule-in}
-use Rattle.simulation.specs.Words.{statesIn, rulesIn}
-use Rattle.simulation.specs.Inner.{RowRanged, Has}
-use Rattle.automaton.proofs.Ranges.{from-rising}
-use Rattle.simulation.proofs.Ranges.{from-member, member-from}
-use Rattle.simulation.proofs.Preorder.{all-member}
+use Rattle.automaton.specs.Row.{ruleAt, rulesIn}
+use Rattle.automaton.proofs.Keeping.{keep-agree, keep-in, keep-map, keep-out}
+use Rattle.automaton.proofs.Ranges.{from-rising, from-member, member-from}
+use Rattle.automaton.proofs.Rowing.{rule-in}
+use Rattle.simulation.specs.Words.{statesIn}
+use Rattle.simulation.specs.Inner.{Has}
 use Rattle.reduction.specs.Steps.{Stage, among}
-use Rattle.reduction.specs.Inner.{Sound, Known, marked}
-use Rattle.reduction.proofs.Members.{among-in, among-out}
-use Rattle.reduction.proofs.Members.{rising-keep, rising-same}
-use Rattle.simulation.proofs.Parts.{length-part}
-
--- Marked rows.
+use Rattle.reduction.specs.Inner.{Sound, marked, stageIn}
+use Rattle.reduction.proofs.Members.{among-in, among-out, rising-keep, rising-same}
 
 below-range : (k i : ℕ) → List·Memᴰ i (from 0 k) → i < k
 below-range k i m = let h = member-from k 0 i m in omega arith
 
-pub marked-few : (marks : List Bool) (k : ℕ) → length (keep (marked marks) (from 0 k)) ≤ k
-marked-few marks k = omega (arith, keep-shorter (marked marks) (from 0 k), length-from 0 k)
-
-pub marked-rules : (ranks rows : List ℕ) (k : ℕ) (marks : List Bool) (test : Rule → Bool)
-    → ((i : ℕ) → i < k → marked marks i ≡ test (ruleAt ranks rows i))
-    → map (ruleAt ranks rows) (keep (marked marks) (from 0 k)) ≡ keep test (rulesIn ranks rows k)
+-- Marked rules.
+pub marked-rules : (rows : List ℕ) (k : ℕ) (marks : List Bool) (test : Rule → Bool)
+    → ((i : ℕ) → i < k → marked marks i ≡ test (ruleAt rows i))
+    → map (ruleAt rows) (keep (marked marks) (from 0 k)) ≡ keep test (rulesIn rows k)
 unfolding rulesIn
-marked-rules ranks rows k marks test h =
-    ap (map (ruleAt ranks rows))
-    (keep-agree (marked marks) (λ (i : ℕ). test (ruleAt ranks rows i)) (from 0 k) (λ i m. h i (below-range k i m)))
-    ∙ sym (keep-map test (ruleAt ranks rows) (from 0 k))
+marked-rules rows k marks test h =
+    ap (map (ruleAt rows))
+    (keep-agree (marked marks) (λ (i : ℕ). test (ruleAt rows i)) (from 0 k) (λ i m. h i (below-range k i m)))
+    ∙ sym (keep-map test (ruleAt rows) (from 0 k))
 
 -- Sets of states.
+
+pub states-low : (n : ℕ) (set : List ℕ) (q : ℕ) → List·Memᴰ q (statesIn n set) → q < n
+unfolding statesIn
+states-low n set q m = below-range n q (keep-out (member set) (from 0 n) m .0)
 
 pub set-states : (words xs : List ℕ) (n : ℕ) → n ≤ 256 → Rising xs → ((q : ℕ) → List·Memᴰ q xs → q < n) → Has words (among xs)
     → statesIn n words ≡ xs
@@ -55,63 +47,12 @@ set-states words xs n few rising low has =
     (λ q m. let l = low q m in
     keep-in (member words) (from-member n 0 q (omega arith) (omega arith)) (has q (omega arith) ∙ among-in m))
 
--- Rows in range.
+-- Targets of rules that a sound stage has.
 
-at-member : (xs : List ℕ) (i : ℕ) → i < length xs → List·Memᴰ (getD xs i 0) xs
-at-member [] i h = absurd (omega arith)
-at-member (x ∷ xs) zero h = List·Memᴰ·head refl
-at-member (x ∷ xs) (suc i) h = List·Memᴰ·tail (at-member xs i (omega arith))
+pub stage-low : (n : ℕ) (states finals rows : List ℕ) (k q : ℕ) → List·Memᴰ q (stageIn n states finals rows k .states) → q < n
+unfolding stageIn
+stage-low n states finals rows k q m = states-low n states q m
 
-pub known-rules : (ranks rows : List ℕ) (k : ℕ) → 10 * k ≤ length rows → ((i : ℕ) → i < k → RowRanged ranks rows i)
-    → (u : Rule) → List·Memᴰ u (rulesIn ranks rows k) → Known ranks u
-unfolding rulesIn ruleAt
-known-rules ranks rows k room ranged u m =
-    let (i, n, e) = Memᴰ·of-map (ruleAt ranks rows) (from 0 k) m in
-    let low = below-range k i n in
-    let r = ranged i low in
-    let s : getD rows (10 * i) 0 ≡ u .symbol = ap (λ (v : Rule). v .symbol) e in
-    let rank : getD ranks (getD rows (10 * i) 0) 0 ≤ 8 = r .rank in
-    record {
-      symbol = rw s at (r .symbol);
-      rank = rw s at (r .rank);
-      arity = ap (λ (v : Rule). length (v .children)) (sym e)
-          ∙ length-part rows (10 * i + 2) (getD ranks (getD rows (10 * i) 0) 0) (omega arith)
-          ∙ ap (λ (f : ℕ). getD ranks f 0) s;
-    }
-
--- A rule with the symbol and the number of children of a known one.
-pub known-like : (ranks : List ℕ) (u v : Rule) → Known ranks u → u .symbol ≡ v .symbol → length (v .children) ≡ length (u .children)
-    → Known ranks v
-known-like ranks u v known s l =
-    record { symbol = rw s at (known .symbol); rank = rw s at (known .rank); arity = l ∙ rw s at (known .arity) }
-
-module _ (ranks rows : List ℕ) (k : ℕ)
-    (known : (u : Rule) → List·Memᴰ u (rulesIn ranks rows k) → Known ranks u)
-    (targets : (u : Rule) → List·Memᴰ u (rulesIn ranks rows k) → u .target < 256)
-    (children : (u : Rule) → List·Memᴰ u (rulesIn ranks rows k) → (q : ℕ) → List·Memᴰ q (u .children) → q < 256) where
-  states-low : (i : ℕ) → i < k → (j : ℕ) → j < 1 + getD ranks (getD rows (10 * i) 0) 0 → getD rows (10 * i + 1 + j) 0 < 256
-  unfolding ruleAt
-  states-low i h zero l = rw add-zero (targets (ruleAt ranks rows i) (rule-in ranks rows k i h))
-  states-low i h (suc j) l =
-      let u : Rule = ruleAt ranks rows i in
-      let m = rule-in ranks rows k i h in
-      let rank : ℕ = getD ranks (getD rows (10 * i) 0) 0 in
-      let place : 10 * i + 1 + suc j ≡ 10 * i + 2 + j = omega arith in
-      let below : j < rank = omega arith in
-      let inside : List·Memᴰ (getD (take rank (drop (10 * i + 2) rows)) j 0) (u .children) =
-      at-member (take rank (drop (10 * i + 2) rows)) j (omega (arith, known u m .arity)) in
-      rw place (rw (getD-take rank (drop (10 * i + 2) rows) j 0 below, getD-drop) at (children u m _ inside))
-
-  pub ranged-rows : (i : ℕ) → i < k → RowRanged ranks rows i
-  unfolding ruleAt
-  ranged-rows i h =
-      let u = known (ruleAt ranks rows i) (rule-in ranks rows k i h) in
-      record { symbol = u .symbol; rank = u .rank; states = states-low i h }
-
--- The rows that hold the rules of a sound stage are in range.
-pub ranged-stage : (ranks rows : List ℕ) (k : ℕ) (S : Stage) → Sound S → rulesIn ranks rows k ≡ S .rules
-    → ((u : Rule) → List·Memᴰ u (S .rules) → Known ranks u) → (i : ℕ) → i < k → RowRanged ranks rows i
-ranged-stage ranks rows k S sound e known =
-    ranged-rows ranks rows k (λ u m. known u (rw e at m))
-    (λ u m. all-member (sound .low) (sound .targets u (rw e at m)))
-    (λ u m q c. all-member (sound .low) (sound .children u (rw e at m) q c))
+pub targets-low : (S : Stage) → Sound S → (n : ℕ) → ((q : ℕ) → List·Memᴰ q (S .states) → q < n) → (rows : List ℕ) (k : ℕ)
+    → ((u : Rule) → List·Memᴰ u (rulesIn rows k) → List·Memᴰ u (S .rules)) → (i : ℕ) → i < k → ruleAt rows i .target < n
+targets-low S sound n low rows k inside i h = low _ (sound .targets _ (inside _ (rule-in rows k i h)))

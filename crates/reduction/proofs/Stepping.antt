@@ -1,39 +1,35 @@
 -- What each step's calls leave in the arrays is the stage that the step defines.
-use Prim.Native.Nat.{ℕ, _+_, _*_, _≤_, _<_}
-use native.Mathlib.Nat.{add-zero}
+use Prim.Native.Nat.{ℕ, _≤_, _<_}
 use native.Mathlib.Omega.{arith}
 use mathlib.Core.Path.{_≡_, refl, sym, ap, ap₂, _∙_}
 use mathlib.Core.List.{List, [], _∷_, map, List·Memᴰ, List·Memᴰ·head, List·Memᴰ·tail, Memᴰ·of-map}
 use mathlib.Core.Bool.{Bool, true, _&&_}
-use lib.ListN.{length, getD, length-map}
+use lib.ListN.{length}
 use lib.Dec.{eqb}
 use borrow.Author.Tests.{eq-eqb, eqb-true}
 use Rattle.automaton.specs.Lists.{all, from, keep}
-use Rattle.automaton.specs.Automaton.{Rule, Automaton, WellFormed, WellFormedRule}
+use Rattle.automaton.specs.Automaton.{Rule, Automaton, WellFormed, WellFormedRule, renamed}
 use Rattle.automaton.specs.StateSet.{member}
-use Rattle.automaton.specs.Decoded.{ruleAt}
-use Rattle.automaton.proofs.WrittenBytes.{length-from}
+use Rattle.automaton.specs.Row.{ruleAt, rulesIn}
 use Rattle.automaton.proofs.Keeping.{keep-agree, keep-in, keep-out, keep-shorter}
+use Rattle.automaton.proofs.Ranges.{from-rising, length-from, from-member, member-from}
+use Rattle.automaton.proofs.Rowing.{rule-in}
 use Rattle.simulation.specs.Tree.{any}
-use Rattle.simulation.specs.Words.{statesIn, rulesIn}
-use Rattle.simulation.specs.Inner.{RowRanged, Has}
-use Rattle.simulation.proofs.Search.{and-true-in, and-true-out, any-in, any-out}
-use Rattle.simulation.proofs.Stacks.{any-map}
-use Rattle.automaton.proofs.Ranges.{from-rising}
-use Rattle.simulation.proofs.Ranges.{from-member, member-from}
+use Rattle.simulation.specs.Words.{statesIn}
+use Rattle.simulation.specs.Inner.{Has}
+use Rattle.simulation.proofs.Search.{and-true-in, and-true-out, any-in, any-out, any-map}
 use Rattle.simulation.proofs.Preorder.{all-member}
-use Rattle.reduction.specs.Steps.{Stage, among, closure, buildable, productive, namesOnly, trimmed, below, equivalent, firstOf, representative}
-use Rattle.reduction.specs.Steps.{renamed, firsts, quotient, pruned, kept, restricted, position, numbered}
+use Rattle.reduction.specs.Steps.{Stage, among, closure, buildable, productive, namesOnly, trimmed, below, equivalent, firstOf}
+use Rattle.reduction.specs.Steps.{representative, firsts, quotient, pruned, kept, restricted, position}
 use Rattle.reduction.specs.Reduce.{shortened}
-use Rattle.reduction.specs.Inner.{Sound, Known, nameIn, marked, isFirst, stageIn}
+use Rattle.reduction.specs.Inner.{Sound, nameIn, marked, isFirst, stageIn}
 use Rattle.reduction.proofs.Members.{among-in, among-out, same-bool, rising-keep, rising-same}
-use Rattle.reduction.proofs.Firsts.{firsts-out, firsts-places}
+use Rattle.reduction.proofs.Firsts.{firsts-in, firsts-places}
 use Rattle.reduction.proofs.Quotient.{below-reflexive, first-same, representative-state, quotient-states, quotient-sound}
 use Rattle.reduction.proofs.Restricting.{kept-states}
 use Rattle.reduction.proofs.Soundness.{sound-pruned, sound-shortened}
 use Rattle.reduction.proofs.Numbering.{position-low, positions-rising}
-use Rattle.simulation.proofs.Ranged.{rule-in}
-use Rattle.reduction.proofs.Staged.{marked-rules, set-states, known-rules, known-like, ranged-rows, ranged-stage}
+use Rattle.reduction.proofs.Staged.{marked-rules, set-states, stage-low, targets-low}
 
 all-agree : (f g : ℕ → Bool) (qs : List ℕ) → ((q : ℕ) → List·Memᴰ q qs → f q ≡ g q) → all f qs ≡ all g qs
 unfolding all
@@ -57,92 +53,72 @@ renamed-agree f g S sound h =
 
 -- Step 1.
 
-module _ (ranks rows : List ℕ) (k : ℕ) (ranged : (i : ℕ) → i < k → RowRanged ranks rows i) (states : List ℕ)
-    (found : (n : ℕ) → n ≤ 256 → ((i : ℕ) → i < k → getD rows (10 * i + 1) 0 < n)
-    → Has states (among (closure (buildable (rulesIn ranks rows k)) (from 0 n))))
-    (A : Automaton) (w : WellFormed A) (e : rulesIn ranks rows k ≡ A .rules) where
-  target-low : (i : ℕ) → i < k → getD rows (10 * i + 1) 0 < A .states
-  unfolding ruleAt
-  target-low i h = let u : WellFormedRule A (ruleAt ranks rows i) = all-member (w .rules) (rw e at (rule-in ranks rows k i h)) in u .target
+module _ (rows : List ℕ) (k : ℕ) (states : List ℕ)
+    (found : (n : ℕ) → n ≤ 256 → ((i : ℕ) → i < k → ruleAt rows i .target < n)
+    → Has states (among (closure (buildable (rulesIn rows k)) (from 0 n))))
+    (A : Automaton) (w : WellFormed A) (e : rulesIn rows k ≡ A .rules) where
+  rule-formed : (i : ℕ) → i < k → WellFormedRule A (ruleAt rows i)
+  rule-formed i h = all-member (w .rules) (rw e at (rule-in rows k i h))
 
   pub productive-found : Has states (among (productive A))
   unfolding productive
-  productive-found = rw e at (found (A .states) (w .states) target-low)
+  productive-found = rw e at (found (A .states) (w .states) (λ i h. rule-formed i h .target))
 
   named-agrees : (i : ℕ) → i < k
-      → (member states (ruleAt ranks rows i .target) && all (member states) (ruleAt ranks rows i .children))
-      ≡ namesOnly (productive A) (ruleAt ranks rows i)
+      → (member states (ruleAt rows i .target) && all (member states) (ruleAt rows i .children))
+      ≡ namesOnly (productive A) (ruleAt rows i)
   unfolding namesOnly
   named-agrees i h =
-      let u : WellFormedRule A (ruleAt ranks rows i) = all-member (w .rules) (rw e at (rule-in ranks rows k i h)) in
+      let u = rule-formed i h in
       let few = w .states in
-      ap₂ _&&_ (productive-found (ruleAt ranks rows i .target) (omega (arith, u .target)))
-      (all-agree (member states) (among (productive A)) (ruleAt ranks rows i .children)
+      ap₂ _&&_ (productive-found (ruleAt rows i .target) (omega (arith, u .target)))
+      (all-agree (member states) (among (productive A)) (ruleAt rows i .children)
       (λ q m. productive-found q (omega (arith, all-member (u .children) m))))
 
   pub trimmed-rules : (marks : List Bool)
-      → ((i : ℕ) → i < k → marked marks i
-      ≡ (member states (ruleAt ranks rows i .target) && all (member states) (ruleAt ranks rows i .children)))
-      → map (ruleAt ranks rows) (keep (marked marks) (from 0 k)) ≡ trimmed A .rules
+      → ((i : ℕ) → i < k → marked marks i ≡ (member states (ruleAt rows i .target) && all (member states) (ruleAt rows i .children)))
+      → map (ruleAt rows) (keep (marked marks) (from 0 k)) ≡ trimmed A .rules
   unfolding trimmed
   trimmed-rules marks h =
-      rw e at (marked-rules ranks rows k marks (namesOnly (productive A)) (λ i l. h i l ∙ named-agrees i l))
+      rw e at (marked-rules rows k marks (namesOnly (productive A)) (λ i l. h i l ∙ named-agrees i l))
 
 -- Step 3.
 
-pub stage-low : (n : ℕ) (states finals ranks rows : List ℕ) (k q : ℕ) → List·Memᴰ q (stageIn n states finals ranks rows k .states) → q < n
-unfolding stageIn statesIn
-stage-low n states finals ranks rows k q m = let h = member-from n 0 q (keep-out (member states) (from 0 n) m .0) in omega arith
+pub quotient-low : (S : Stage) → Sound S → (n : ℕ) → ((q : ℕ) → List·Memᴰ q (S .states) → q < n) → (rows : List ℕ) (k : ℕ)
+    → ((u : Rule) → List·Memᴰ u (rulesIn rows k) → List·Memᴰ u (quotient (below S) S .rules)) → (i : ℕ) → i < k → ruleAt rows i .target < n
+quotient-low S sound n low =
+    targets-low (quotient (below S) S) (quotient-sound S sound) n (λ q m. low q (quotient-states S sound q m))
 
-module _ (n : ℕ) (few : n ≤ 256) (states finals ranks rows : List ℕ) (k : ℕ)
-    (sound : Sound (stageIn n states finals ranks rows k)) (names : List ℕ)
-    (named : (q : ℕ) → q < n → equivalent (below (stageIn n states finals ranks rows k)) q q ≡ true
-    → nameIn names q ≡ firstOf (equivalent (below (stageIn n states finals ranks rows k)) q) (from 0 256)) where
+module _ (n : ℕ) (states finals rows : List ℕ) (k : ℕ) (sound : Sound (stageIn n states finals rows k)) (names : List ℕ)
+    (named : (q : ℕ) → q < n → equivalent (below (stageIn n states finals rows k)) q q ≡ true
+    → nameIn names q ≡ firstOf (equivalent (below (stageIn n states finals rows k)) q) (from 0 256)) where
   abbrev S : Stage
-  S = stageIn n states finals ranks rows k
+  S = stageIn n states finals rows k
 
   name-representative : (q : ℕ) → List·Memᴰ q (S .states) → nameIn names q ≡ representative (below S) (S .states) q
   unfolding equivalent
   name-representative q m =
       let r = below-reflexive S sound q m in
-      named q (stage-low n states finals ranks rows k q m) (and-true-in r r) ∙ first-same S sound q m
+      named q (stage-low n states finals rows k q m) (and-true-in r r) ∙ first-same S sound q m
 
-  renamed-rules : map (renamed (nameIn names)) (rulesIn ranks rows k) ≡ map (renamed (representative (below S) (S .states))) (S .rules)
-  unfolding stageIn
-  renamed-rules = renamed-agree (nameIn names) (representative (below S) (S .states)) S sound name-representative
-
-  -- The renamed rows are in range.
-  module _ (next : List ℕ) (room : 10 * k ≤ length rows) (ranged : (i : ℕ) → i < k → RowRanged ranks rows i)
-      (e : rulesIn ranks next k ≡ map (renamed (nameIn names)) (rulesIn ranks rows k)) where
-    origin : (v : Rule) → List·Memᴰ v (rulesIn ranks next k)
-        → (u : Rule) × List·Memᴰ u (S .rules) × (renamed (representative (below S) (S .states)) u ≡ v)
+  -- The rows after the rules are renamed.
+  module _ (next : List ℕ) (e : rulesIn next k ≡ map (renamed (nameIn names)) (rulesIn rows k)) where
+    renamed-rules : rulesIn next k ≡ map (renamed (representative (below S) (S .states))) (S .rules)
     unfolding stageIn
-    origin v m = Memᴰ·of-map _ (rulesIn ranks rows k) (rw (e ∙ renamed-rules) at m)
+    renamed-rules = e ∙ renamed-agree (nameIn names) (representative (below S) (S .states)) S sound name-representative
 
-    low : (q : ℕ) → List·Memᴰ q (S .states) → representative (below S) (S .states) q < 256
-    low q m = all-member (sound .low) (quotient-states S sound _ (representative-state S sound q m))
+    pub renamed-low : (i : ℕ) → i < k → ruleAt next i .target < n
+    unfolding quotient
+    renamed-low = quotient-low S sound n (stage-low n states finals rows k) next k (λ u m. firsts-in _ (rw renamed-rules at m))
 
-    pub renamed-ranged : (i : ℕ) → i < k → RowRanged ranks next i
-    unfolding renamed stageIn
-    renamed-ranged =
-        ranged-rows ranks next k
-        (λ v m. let (u, n, f) = origin v m in
-        known-like ranks u v (known-rules ranks rows k room ranged u n) (ap (λ (x : Rule). x .symbol) f)
-        (ap (λ (x : Rule). length (x .children)) (sym f) ∙ length-map (u .children) _))
-        (λ v m. let (u, n, f) = origin v m in
-        rw (ap (λ (x : Rule). x .target) f) at (low (u .target) (sound .targets u n)))
-        (λ v m q c. let (u, n, f) = origin v m in
-        let (p, o, g) = Memᴰ·of-map _ (u .children) (rw (sym (ap (λ (x : Rule). x .children) f)) at c) in
-        rw g at (low p (sound .children u n p o)))
-
-    pub grouped-rules : (marks : List Bool) → ((i : ℕ) → i < k → marked marks i ≡ isFirst ranks next i)
-        → map (ruleAt ranks next) (keep (marked marks) (from 0 k)) ≡ quotient (below S) S .rules
+    pub grouped-rules : (marks : List Bool) → ((i : ℕ) → i < k → marked marks i ≡ isFirst next i)
+        → map (ruleAt next) (keep (marked marks) (from 0 k)) ≡ quotient (below S) S .rules
     unfolding quotient isFirst rulesIn
     grouped-rules marks h =
-        ap (map (ruleAt ranks next)) (keep-agree (marked marks) (isFirst ranks next) (from 0 k)
+        ap (map (ruleAt next)) (keep-agree (marked marks) (isFirst next) (from 0 k)
         (λ i m. h i (let l = member-from k 0 i m in omega arith)))
-        ∙ firsts-places (ruleAt ranks next) k
-        ∙ ap firsts (e ∙ renamed-rules)
+        ∙ firsts-places (ruleAt next) k
+        ∙ ap firsts renamed-rules
 
   pub grouped-finals : (set : List ℕ)
       → Has set (λ (r : ℕ). any (λ (q : ℕ). eqb (nameIn names q) r) (keep (λ (q : ℕ). member finals q && member states q) (from 0 n)))
@@ -162,6 +138,26 @@ module _ (n : ℕ) (few : n ≤ 256) (states finals ranks rows : List ℕ) (k : 
       (eq-eqb (nameIn names (f .element)) r
       (name-representative (f .element) (sound .finals (f .element) (f .member)) ∙ eqb-true _ r (f .passes))))
 
+-- Step 5.
+
+pub restricted-rules : (rows : List ℕ) (k : ℕ) (states : List ℕ) (S : Stage) → Sound S → rulesIn rows k ≡ S .rules
+    → Has states (among (kept S)) → (marks : List Bool)
+    → ((i : ℕ) → i < k → marked marks i ≡ member states (ruleAt rows i .target))
+    → map (ruleAt rows) (keep (marked marks) (from 0 k)) ≡ restricted S .rules
+unfolding restricted
+restricted-rules rows k states S sound e has marks h =
+    rw e at (marked-rules rows k marks (λ (u : Rule). among (kept S) (u .target))
+    (λ i l. h i l ∙ has (ruleAt rows i .target)
+    (targets-low S sound 256 (λ q m. all-member (sound .low) m) rows k (λ u m. rw e at m) i l)))
+
+-- The kept states, as a set of states below n.
+pub kept-states-in : (n : ℕ) → n ≤ 256 → (S : Stage) (sound : Sound S) → ((q : ℕ) → List·Memᴰ q (S .states) → q < n)
+    → (words : List ℕ) → Has words (among (kept (pruned (below S) (quotient (below S) S)))) → statesIn n words ≡ shortened S .states
+unfolding shortened restricted pruned
+kept-states-in n few S sound low words has =
+    set-states words (kept (pruned (below S) (quotient (below S) S))) n few (sound-shortened S sound .rising)
+    (λ q m. low q (quotient-states S sound q (kept-states (pruned (below S) (quotient (below S) S)) (sound-pruned S sound) q m))) has
+
 -- Step 6.
 
 module _ (n : ℕ) (few : n ≤ 256) (states finals : List ℕ) (S : Stage) (sound : Sound S) (e : statesIn n states ≡ S .states)
@@ -176,9 +172,8 @@ module _ (n : ℕ) (few : n ≤ 256) (states finals : List ℕ) (S : Stage) (sou
   name-position : (q : ℕ) → List·Memᴰ q (S .states) → nameIn names q ≡ position (S .states) q
   name-position q m = let r = in-range q m in named q (r .0) (r .1) ∙ ap (λ (xs : List ℕ). position xs q) e
 
-  pub numbered-rules : (ranks : List ℕ) → map (renamed (nameIn names)) (S .rules) ≡ numbered ranks S .rules
-  unfolding numbered
-  numbered-rules ranks = renamed-agree (nameIn names) (position (S .states)) S sound name-position
+  pub numbered-rules : map (renamed (nameIn names)) (S .rules) ≡ map (renamed (position (S .states))) (S .rules)
+  numbered-rules = renamed-agree (nameIn names) (position (S .states)) S sound name-position
 
   finals-are : keep (λ (q : ℕ). member finals q && member states q) (from 0 n) ≡ S .finals
   finals-are =
@@ -208,51 +203,3 @@ module _ (n : ℕ) (few : n ≤ 256) (states finals : List ℕ) (S : Stage) (sou
     where
       named-among : (r : ℕ) (xs ys : List ℕ) → xs ≡ ys → any (λ (i : ℕ). eqb i r) xs ≡ among ys r
       named-among r xs ys same = ap (any (λ (i : ℕ). eqb i r)) same
-
--- Step 5: the kept rules.
-pub restricted-rules : (ranks rows : List ℕ) (k : ℕ) (ranged : (i : ℕ) → i < k → RowRanged ranks rows i) (states : List ℕ) (S : Stage)
-    → rulesIn ranks rows k ≡ S .rules → Has states (among (kept S)) → (marks : List Bool)
-    → ((i : ℕ) → i < k → marked marks i ≡ member states (getD rows (10 * i + 1) 0))
-    → map (ruleAt ranks rows) (keep (marked marks) (from 0 k)) ≡ restricted S .rules
-unfolding restricted ruleAt
-restricted-rules ranks rows k ranged states S e has marks h =
-    rw e at (marked-rules ranks rows k marks (λ (u : Rule). among (kept S) (u .target))
-    (λ i l. h i l ∙ has (getD rows (10 * i + 1) 0) (target-in (ranged i l))))
-  where
-    target-in : {i : ℕ} → RowRanged ranks rows i → getD rows (10 * i + 1) 0 < 256
-    target-in r = rw add-zero at (r .states 0 (omega arith))
-
--- The rules of the later stages have the symbols of the first one's, so that their rows are in range.
-module _ (ranks : List ℕ) (S : Stage) (sound : Sound S) (known : (u : Rule) → List·Memᴰ u (S .rules) → Known ranks u) where
-  known-quotient : (u : Rule) → List·Memᴰ u (quotient (below S) S .rules) → Known ranks u
-  unfolding quotient renamed
-  known-quotient u m =
-      let (v, n, e) = Memᴰ·of-map _ (S .rules) (firsts-out _ m) in
-      known-like ranks v u (known v n) (ap (λ (x : Rule). x .symbol) e)
-      (ap (λ (x : Rule). length (x .children)) (sym e) ∙ length-map (v .children) _)
-
-  known-pruned : (u : Rule) → List·Memᴰ u (pruned (below S) (quotient (below S) S) .rules) → Known ranks u
-  unfolding pruned
-  known-pruned u m = known-quotient u (keep-out _ (quotient (below S) S .rules) m .0)
-
-  known-shortened : (u : Rule) → List·Memᴰ u (shortened S .rules) → Known ranks u
-  unfolding shortened restricted
-  known-shortened u m = known-pruned u (keep-out _ (pruned (below S) (quotient (below S) S) .rules) m .0)
-
-  module _ (rows : List ℕ) (k : ℕ) where
-    pub ranged-quotient : rulesIn ranks rows k ≡ quotient (below S) S .rules → (i : ℕ) → i < k → RowRanged ranks rows i
-    ranged-quotient e = ranged-stage ranks rows k (quotient (below S) S) (quotient-sound S sound) e known-quotient
-
-    pub ranged-pruned : rulesIn ranks rows k ≡ pruned (below S) (quotient (below S) S) .rules → (i : ℕ) → i < k → RowRanged ranks rows i
-    ranged-pruned e = ranged-stage ranks rows k (pruned (below S) (quotient (below S) S)) (sound-pruned S sound) e known-pruned
-
-    pub ranged-shortened : rulesIn ranks rows k ≡ shortened S .rules → (i : ℕ) → i < k → RowRanged ranks rows i
-    ranged-shortened e = ranged-stage ranks rows k (shortened S) (sound-shortened S sound) e known-shortened
-
--- The kept states, as a set of states below n.
-pub kept-states-in : (n : ℕ) → n ≤ 256 → (S : Stage) (sound : Sound S) → ((q : ℕ) → List·Memᴰ q (S .states) → q < n)
-    → (words : List ℕ) → Has words (among (kept (pruned (below S) (quotient (below S) S)))) → statesIn n words ≡ shortened S .states
-unfolding shortened restricted pruned
-kept-states-in n few S sound low words has =
-    set-states words (kept (pruned (below S) (quotient (below S) S))) n few (sound-shortened S sound .rising)
-    (λ q m. low q (quotient-states S sound q (kept-states (pruned (below S) (quotient (below S) S)) (sound-pruned S sound) q m))) has

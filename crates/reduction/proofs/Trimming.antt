@@ -13,8 +13,7 @@ use Rattle.simulation.specs.Tree.{Tree, Trees, node, nil, cons}
 use Rattle.simulation.specs.Run.{RuleAt, Reaches}
 use Rattle.simulation.specs.Simulation.{Simulates}
 use Rattle.simulation.proofs.Search.{and-true-in, and-true-out, any-in, any-out}
-use Rattle.automaton.proofs.Ranges.{from-rising}
-use Rattle.simulation.proofs.Ranges.{from-member, member-from}
+use Rattle.automaton.proofs.Ranges.{from-rising, from-member, member-from}
 use Rattle.simulation.proofs.Runs.{ReachesAll, reaches-node, node-reaches}
 use Rattle.simulation.proofs.Language.{each-refl, simulates-reaches}
 use Rattle.simulation.proofs.Preorder.{all-member}

@@ -8,10 +8,10 @@ use lib.ListN.{length, getD}
 use Rattle.automaton.specs.Lists.{All, Rising, all, from, keep}
 use Rattle.automaton.specs.Automaton.{Rule}
 use Rattle.automaton.specs.StateSet.{member}
-use Rattle.automaton.specs.Decoded.{ruleAt}
+use Rattle.automaton.specs.Row.{ruleAt, rulesIn}
 use Rattle.automaton.specs.declared.table.Size.{Size}
 use Rattle.simulation.specs.Tree.{any}
-use Rattle.simulation.specs.Words.{statesIn, rulesIn}
+use Rattle.simulation.specs.Words.{statesIn}
 use Rattle.reduction.specs.Steps.{Stage, sameRule}
 use Rattle.reduction.specs.Report.{line, reducedWord, statesWord, rulesWord, roundsWord}
 
@@ -24,18 +24,12 @@ pub record Sound (S : Stage) : Type 0 where
   pub targets : (u : Rule) → List·Memᴰ u (S .rules) → List·Memᴰ (u .target) (S .states)
   pub children : (u : Rule) → List·Memᴰ u (S .rules) → (q : ℕ) → List·Memᴰ q (u .children) → List·Memᴰ q (S .states)
 
--- A rule whose symbol is below 256 and has a rank of at most 8, and as many children.
-pub record Known (ranks : List ℕ) (u : Rule) : Type 0 where
-  pub symbol : u .symbol < 256
-  pub rank : getD ranks (u .symbol) 0 ≤ 8
-  pub arity : length (u .children) ≡ getD ranks (u .symbol) 0
-
--- The stage that decoded arrays and sets of states below n hold.
-unfoldable pub stageIn : ℕ → List ℕ → List ℕ → List ℕ → List ℕ → ℕ → Stage
-stageIn n states finals ranks rows k = record {
+-- The stage that decoded rules and sets of states below n hold.
+unfoldable pub stageIn : ℕ → List ℕ → List ℕ → List ℕ → ℕ → Stage
+stageIn n states finals rows k = record {
   states = statesIn n states;
   finals = keep (λ (q : ℕ). member finals q && member states q) (from 0 n);
-  rules = rulesIn ranks rows k;
+  rules = rulesIn rows k;
 }
 
 -- The new name of state q stands at place q.
@@ -47,8 +41,8 @@ unfoldable pub marked : List Bool → ℕ → Bool
 marked marks i = getD marks i false
 
 -- No rule before rule i is equal to it.
-unfoldable pub isFirst : List ℕ → List ℕ → ℕ → Bool
-isFirst ranks rows i = not (any (λ (j : ℕ). sameRule (ruleAt ranks rows j) (ruleAt ranks rows i)) (from 0 i))
+unfoldable pub isFirst : List ℕ → ℕ → Bool
+isFirst rows i = not (any (λ (j : ℕ). sameRule (ruleAt rows j) (ruleAt rows i)) (from 0 i))
 
 -- A pass over rules that adds the targets of those whose children are all in a set: it adds all of them, and nothing that does not follow.
 pub record TargetsAdded (rules : List Rule) (before after : List ℕ) : Type 0 where

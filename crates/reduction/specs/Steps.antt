@@ -6,7 +6,7 @@ use mathlib.Core.Bool.{Bool, true, false, not, cond, _&&_, _||_}
 use lib.ListN.{length}
 use lib.Dec.{eqb}
 use Rattle.automaton.specs.Lists.{all, from, keep}
-use Rattle.automaton.specs.Automaton.{Rule, Automaton}
+use Rattle.automaton.specs.Automaton.{Rule, Automaton, renamed}
 use Rattle.simulation.specs.Tree.{any}
 use Rattle.simulation.specs.Simulation.{Relation, related, matchedBy, relation, rounds}
 
@@ -67,9 +67,6 @@ firstOf test (q ∷ qs) = cond (test q) q (firstOf test qs)
 
 unfoldable pub representative : Relation → List ℕ → ℕ → ℕ
 representative R states q = firstOf (equivalent R q) states
-
-unfoldable pub renamed : (ℕ → ℕ) → Rule → Rule
-renamed name u = record { symbol = u .symbol; target = name (u .target); children = map name (u .children) }
 
 unfoldable pub sameStates : List ℕ → List ℕ → Bool
 sameStates [] [] = true

@@ -7,8 +7,7 @@ ghost use lib.Dec.{eqb};
 ghost use Rattle.automaton.specs.Lists.{from, keep};
 ghost use Rattle.automaton.specs.StateSet.{member};
 ghost use Rattle.simulation.specs.Tree.{any};
-ghost use Rattle.simulation.specs.Simulation as simulation;
-ghost use Rattle.simulation.specs.Words.{statesIn, relationWords};
+ghost use Rattle.simulation.specs.Words.{statesIn, relationIn};
 ghost use Rattle.simulation.specs.Inner.{Has};
 ghost use Rattle.reduction.specs.Steps.{equivalent, firstOf, position};
 ghost use Rattle.reduction.specs.Inner.{nameIn};
@@ -16,18 +15,15 @@ use automaton::StateSet;
 use simulation::has_pair;
 
 // The smallest state that is equivalent to q; q itself where none below it is.
-fn representative(words: &[u64; 1024], q: usize) -> usize
-    requires { ⌜ q < 256 ⌝ }
+fn representative(words: &[u64; 1024], q: u8) -> u8
     ensures { λ r. ⌜ r ≤ q ⌝ }
-    ensures { λ r. ⌜ ((R : simulation.Relation) → now (words .entry) ≡ relationWords R → equivalent R q q ≡ true
-        → r ≡ firstOf (equivalent R q) (from 0 256)) ⌝ }
+    ensures { λ r. ⌜ (equivalent (relationIn (now (words .entry))) q q ≡ true
+        → r ≡ firstOf (equivalent (relationIn (now (words .entry))) q) (from 0 256)) ⌝ }
 {
-    let mut r: usize = 0;
+    let mut r: u8 = 0;
     while r < q {
-        if has_pair(words, q, r) {
-            if has_pair(words, r, q) {
-                return r;
-            }
+        if has_pair(words, q, r) && has_pair(words, r, q) {
+            return r;
         }
         r += 1;
     }
@@ -35,21 +31,21 @@ fn representative(words: &[u64; 1024], q: usize) -> usize
 }
 
 // Names each state below n after its representative.
-pub fn name_blocks(words: &[u64; 1024], n: usize, names: &mut [u16])
+pub fn name_blocks(words: &[u64; 1024], n: usize, names: &mut [u8])
     requires { ⌜ (n ≤ 256) × (n ≤ length (now names)) ⌝ }
     ensures { λ _. ⌜ ((q : ℕ) → q < n → nameIn (now (names .exit)) q ≤ q) ⌝ }
-    ensures { λ _. ⌜ ((R : simulation.Relation) → now (words .entry) ≡ relationWords R → (q : ℕ) → q < n → equivalent R q q ≡ true
-        → nameIn (now (names .exit)) q ≡ firstOf (equivalent R q) (from 0 256)) ⌝ }
+    ensures { λ _. ⌜ ((q : ℕ) → q < n → equivalent (relationIn (now (words .entry))) q q ≡ true
+        → nameIn (now (names .exit)) q ≡ firstOf (equivalent (relationIn (now (words .entry))) q) (from 0 256)) ⌝ }
 {
     let mut q: usize = 0;
     while q < n {
-        names[q] = representative(words, q) as u16;
+        names[q] = representative(words, q as u8);
         q += 1;
     }
 }
 
 // Numbers the states below n that are in a set, in order; returns how many there are.
-pub fn number_states(set: StateSet, n: usize, names: &mut [u16]) -> usize
+pub fn number_states(set: StateSet, n: usize, names: &mut [u8]) -> usize
     requires { ⌜ (n ≤ 256) × (n ≤ length (now names)) ⌝ }
     ensures { λ r. ⌜ r ≡ length (statesIn n (set .words)) ⌝ }
     ensures { λ r. ⌜ ((q : ℕ) → q < n → nameIn (now (names .exit)) q ≤ q) ⌝ }
@@ -59,8 +55,8 @@ pub fn number_states(set: StateSet, n: usize, names: &mut [u16]) -> usize
     let mut count: usize = 0;
     let mut q: usize = 0;
     while q < n {
-        names[q] = count as u16;
-        if set.has(q) {
+        names[q] = count as u8;
+        if set.has(q as u8) {
             count += 1;
         }
         q += 1;
@@ -69,18 +65,17 @@ pub fn number_states(set: StateSet, n: usize, names: &mut [u16]) -> usize
 }
 
 // The new names of the states below n that are in both sets.
-pub fn rename_set(set: StateSet, within: StateSet, n: usize, names: &[u16]) -> StateSet
+pub fn rename_set(set: StateSet, within: StateSet, n: usize, names: &[u8]) -> StateSet
     requires { ⌜ (n ≤ 256) × (n ≤ length (now names)) ⌝ }
-    requires { ⌜ ((q : ℕ) → q < n → nameIn (now names) q < 256) ⌝ }
     ensures { λ s. ⌜ Has (s .words) (λ (r : ℕ). any (λ (q : ℕ). eqb (nameIn (now (names .entry)) q) r)
         (keep (λ (q : ℕ). member (set .words) q && member (within .words) q) (from 0 n))) ⌝ }
 {
     let mut renamed = StateSet::empty();
     let mut q: usize = 0;
     while q < n {
-        if set.has(q) {
-            if within.has(q) {
-                renamed = renamed.with(names[q] as usize);
+        if set.has(q as u8) {
+            if within.has(q as u8) {
+                renamed = renamed.with(names[q]);
             }
         }
         q += 1;

@@ -136,14 +136,14 @@ fn report_on(table: &[u8], out: &mut [u8]) -> usize
     ensures { λ r. ⌜ now (out .exit) ≡ over (now (out .entry)) 0 (spec.reportOf (judge (now (table .entry)))) ⌝ }
 {
     let mut ranks: [u8; 256] = [0; 256];
-    let mut rows: [u16; 10240] = [0; 10240];
+    let mut rows: [u8; 11264] = [0; 11264];
     let decoded = decode(table, &mut ranks, &mut rows);
     let finals = decoded.finals;
     let judged = decoded.judged;
     match judged {
         Judged::Refused(cause) => put_single(out, 0, b"refused", number(cause) as usize),
         Judged::Table(size) => {
-            let short = reduce_rows(size, finals, &ranks, &mut rows);
+            let short = reduce_rows(size, finals, &mut rows);
             let left = short.size;
             put_reduced(out, size, left, short.rounds)
         }

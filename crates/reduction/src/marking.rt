@@ -1,66 +1,65 @@
 // Marks of the rules that a step keeps.
 ghost use mathlib.Core.Path.{_≡_};
-ghost use mathlib.Core.Bool.{true, not, _&&_};
-ghost use Prim.Native.Nat.{ℕ, _+_, _*_, _≤_, _<_};
-ghost use lib.ListN.{length, take, drop, getD};
+ghost use mathlib.Core.Bool.{not, _&&_};
+ghost use mathlib.Core.List.{List·Memᴰ};
+ghost use Prim.Native.Nat.{ℕ, _≤_, _<_};
+ghost use lib.ListN.{length};
 ghost use Rattle.automaton.specs.Lists.{all};
+ghost use Rattle.automaton.specs.Automaton.{Rule};
 ghost use Rattle.automaton.specs.StateSet.{member};
-ghost use Rattle.automaton.specs.Decoded.{ruleAt};
+ghost use Rattle.automaton.specs.Row.{ruleAt, rulesIn, Row, Rows};
 ghost use Rattle.simulation.specs.Simulation as simulation;
-ghost use Rattle.simulation.specs.Words.{rulesIn, relationWords};
-ghost use Rattle.simulation.specs.Inner.{RowRanged, Chains};
+ghost use Rattle.simulation.specs.Words.{relationIn};
+ghost use Rattle.simulation.specs.Index.{keyed};
 ghost use Rattle.reduction.specs.Steps.{sameStates, sameRule, dominated};
 ghost use Rattle.reduction.specs.Inner.{marked, isFirst};
 use automaton::StateSet;
+use automaton::children_of;
+use automaton::symbol_of;
+use automaton::target_of;
+use simulation::Key;
 use simulation::all_in;
-use simulation::chain_rules;
+use simulation::index_rules;
 use simulation::is_matched_by;
+use simulation::rules_of;
 
 // Marks the rules whose target and children are all in a set.
-pub fn mark_named(
-    set: StateSet,
-    k: usize,
-    ranks: &[u8; 256],
-    rows: &[u16; 10240],
-    marks: &mut [bool],
-)
-    requires { ⌜ (k ≤ 1024) × (k ≤ length (now marks)) ⌝ }
-    requires { ⌜ ((i : ℕ) → i < k → RowRanged (now ranks) (now rows) i) ⌝ }
+pub fn mark_named(set: StateSet, rows: &[u8], k: usize, marks: &mut [bool])
+    requires { ⌜ Rows (now rows) k × (k ≤ length (now marks)) ⌝ }
     ensures { λ _. ⌜ ((i : ℕ) → i < k → marked (now (marks .exit)) i
-        ≡ (member (set .words) (ruleAt (now (ranks .entry)) (now (rows .entry)) i .target)
-        && all (member (set .words)) (ruleAt (now (ranks .entry)) (now (rows .entry)) i .children))) ⌝ }
+        ≡ (member (set .words) (ruleAt (now (rows .entry)) i .target)
+        && all (member (set .words)) (ruleAt (now (rows .entry)) i .children))) ⌝ }
 {
     let mut i: usize = 0;
     while i < k {
-        let symbol = rows[10 * i] as usize;
-        let rank = ranks[symbol] as usize;
-        marks[i] = all_in(set, rows, 10 * i + 1, 1 + rank);
+        marks[i] = set.has(target_of(rows, i)) && all_in(set, children_of(rows, i));
         i += 1;
     }
 }
 
 // Marks the rules whose target is in a set.
-pub fn mark_targets(set: StateSet, k: usize, rows: &[u16; 10240], marks: &mut [bool])
-    requires { ⌜ (k ≤ 1024) × (k ≤ length (now marks)) ⌝ }
-    requires { ⌜ ((i : ℕ) → i < k → getD (now rows) (10 * i + 1) 0 < 256) ⌝ }
+pub fn mark_targets(set: StateSet, rows: &[u8], k: usize, marks: &mut [bool])
+    requires { ⌜ Rows (now rows) k × (k ≤ length (now marks)) ⌝ }
     ensures { λ _. ⌜ ((i : ℕ) → i < k → marked (now (marks .exit)) i
-        ≡ member (set .words) (getD (now (rows .entry)) (10 * i + 1) 0)) ⌝ }
+        ≡ member (set .words) (ruleAt (now (rows .entry)) i .target)) ⌝ }
 {
     let mut i: usize = 0;
     while i < k {
-        marks[i] = set.has(rows[10 * i + 1] as usize);
+        marks[i] = set.has(target_of(rows, i));
         i += 1;
     }
 }
 
-// Whether the `count` states from index a on are those from index b on.
-fn same_states(rows: &[u16], a: usize, b: usize, count: usize) -> bool
-    requires { ⌜ (a + count ≤ length (now rows)) × (b + count ≤ length (now rows)) ⌝ }
-    ensures { λ r. ⌜ r ≡ sameStates (take count (drop a (now (rows .entry)))) (take count (drop b (now (rows .entry)))) ⌝ }
+// Whether two lists of states are the same.
+fn same_states(qs: &[u8], rs: &[u8]) -> bool
+    ensures { λ r. ⌜ r ≡ sameStates (now (qs .entry)) (now (rs .entry)) ⌝ }
 {
+    if qs.len() != rs.len() {
+        return false;
+    }
     let mut j: usize = 0;
-    while j < count {
-        if rows[a + j] != rows[b + j] {
+    while j < qs.len() {
+        if qs[j] != rs[j] {
             return false;
         }
         j += 1;
@@ -69,134 +68,95 @@ fn same_states(rows: &[u16], a: usize, b: usize, count: usize) -> bool
 }
 
 // Whether rule i is equal to rule j.
-fn same_rule(ranks: &[u8; 256], rows: &[u16; 10240], i: usize, j: usize) -> bool
-    requires { ⌜ (i < 1024) × (j < 1024) ⌝ }
-    requires { ⌜ RowRanged (now ranks) (now rows) i × RowRanged (now ranks) (now rows) j ⌝ }
-    ensures { λ r. ⌜ r ≡ sameRule (ruleAt (now (ranks .entry)) (now (rows .entry)) i)
-        (ruleAt (now (ranks .entry)) (now (rows .entry)) j) ⌝ }
+fn same_rule(rows: &[u8], i: usize, j: usize) -> bool
+    requires { ⌜ Row (now rows) i × Row (now rows) j ⌝ }
+    ensures { λ r. ⌜ r ≡ sameRule (ruleAt (now (rows .entry)) i) (ruleAt (now (rows .entry)) j) ⌝ }
 {
-    let symbol = rows[10 * i];
-    if rows[10 * j] != symbol {
+    if symbol_of(rows, i) != symbol_of(rows, j) {
         return false;
     }
-    let rank = ranks[symbol as usize] as usize;
-    same_states(rows, 10 * i + 1, 10 * j + 1, 1 + rank)
+    if target_of(rows, i) != target_of(rows, j) {
+        return false;
+    }
+    same_states(children_of(rows, i), children_of(rows, j))
 }
 
-// Whether no rule before rule i is equal to it; the chain of its target leads to the first that is.
-fn is_first(
-    k: usize,
-    ranks: &[u8; 256],
-    rows: &[u16; 10240],
-    head: &[u16; 256],
-    next: &[u16; 1024],
-    i: usize,
-) -> bool
-    requires { ⌜ (k ≤ 1024) × (i < k) ⌝ }
-    requires { ⌜ ((j : ℕ) → j < k → RowRanged (now ranks) (now rows) j) ⌝ }
-    requires { ⌜ Chains (now rows) 1 k (now head) (now next) ⌝ }
-    ensures { λ r. ⌜ r ≡ isFirst (now (ranks .entry)) (now (rows .entry)) i ⌝ }
+// Whether no rule before rule i is equal to it; among the rules of its target, by their numbers, the first that is equal is itself then.
+fn is_first(rows: &[u8], numbers: &[u16], i: usize) -> bool
+    requires { ⌜ ((k : ℕ) × ((i < k) × (Rows (now rows) k
+        × (now numbers ≡ keyed (λ (u : Rule). u .target) (now rows) (ruleAt (now rows) i .target) 0 k)))) ⌝ }
+    ensures { λ r. ⌜ r ≡ isFirst (now (rows .entry)) i ⌝ }
 {
-    let target = rows[10 * i + 1] as usize;
-    let mut link = head[target] as usize;
-    while link > 0 {
-        let j = link - 1;
-        if same_rule(ranks, rows, j, i) {
-            return j == i;
+    let mut j: usize = 0;
+    while j < numbers.len() {
+        let other = numbers[j] as usize;
+        if same_rule(rows, other, i) {
+            return other == i;
         }
-        link = next[j] as usize;
+        j += 1;
     }
     true
 }
 
-// Marks the rules that no rule before them is equal to.
-pub fn mark_firsts(k: usize, ranks: &[u8; 256], rows: &[u16; 10240], marks: &mut [bool])
-    requires { ⌜ (k ≤ 1024) × (k ≤ length (now marks)) ⌝ }
-    requires { ⌜ ((i : ℕ) → i < k → RowRanged (now ranks) (now rows) i) ⌝ }
-    ensures { λ _. ⌜ ((i : ℕ) → i < k
-        → marked (now (marks .exit)) i ≡ isFirst (now (ranks .entry)) (now (rows .entry)) i) ⌝ }
+// Marks the rules that no rule before them is equal to; their targets are below n.
+pub fn mark_firsts(rows: &[u8], k: usize, n: usize, marks: &mut [bool])
+    requires { ⌜ Rows (now rows) k × (k ≤ length (now marks)) ⌝ }
+    requires { ⌜ (n ≤ 256) × ((i : ℕ) → i < k → ruleAt (now rows) i .target < n) ⌝ }
+    ensures { λ _. ⌜ ((i : ℕ) → i < k → marked (now (marks .exit)) i ≡ isFirst (now (rows .entry)) i) ⌝ }
 {
-    let mut head: [u16; 256] = [0; 256];
-    let mut next: [u16; 1024] = [0; 1024];
-    chain_rules(rows, k, 1, &mut head, &mut next);
+    let mut index: [u16; 1281] = [0; 1281];
+    index_rules(rows, k, Key::Target, n, &mut index);
     let mut i: usize = 0;
     while i < k {
-        marks[i] = is_first(k, ranks, rows, &head, &next, i);
+        let numbers = rules_of(&index, target_of(rows, i) as usize);
+        marks[i] = is_first(rows, numbers, i);
         i += 1;
     }
 }
 
 // Whether rule j dominates rule i if it has its target, which is not looked at.
-fn is_better(
-    words: &[u64; 1024],
-    ranks: &[u8; 256],
-    rows: &[u16; 10240],
-    i: usize,
-    j: usize,
-) -> bool
-    requires { ⌜ (i < 1024) × (j < 1024) ⌝ }
-    requires { ⌜ RowRanged (now ranks) (now rows) i × RowRanged (now ranks) (now rows) j ⌝ }
-    ensures { λ x. ⌜ ((R : simulation.Relation) → now (words .entry) ≡ relationWords R → x
-        ≡ (simulation.matchedBy R (ruleAt (now (ranks .entry)) (now (rows .entry)) i) (ruleAt (now (ranks .entry)) (now (rows .entry)) j)
-        && not (sameStates (ruleAt (now (ranks .entry)) (now (rows .entry)) i .children)
-        (ruleAt (now (ranks .entry)) (now (rows .entry)) j .children)))) ⌝ }
+fn is_better(words: &[u64; 1024], rows: &[u8], i: usize, j: usize) -> bool
+    requires { ⌜ Row (now rows) i × Row (now rows) j ⌝ }
+    ensures { λ x. ⌜ x ≡ (simulation.matchedBy (relationIn (now (words .entry))) (ruleAt (now (rows .entry)) i) (ruleAt (now (rows .entry)) j)
+        && not (sameStates (ruleAt (now (rows .entry)) i .children) (ruleAt (now (rows .entry)) j .children))) ⌝ }
 {
-    if !is_matched_by(words, ranks, rows, i, j) {
+    if !is_matched_by(words, rows, i, rows, j) {
         return false;
     }
-    let symbol = rows[10 * i] as usize;
-    let rank = ranks[symbol] as usize;
-    !same_states(rows, 10 * i + 2, 10 * j + 2, rank)
+    !same_states(children_of(rows, i), children_of(rows, j))
 }
 
-// Whether none of the k rules dominates rule i; only those of its target are looked at.
-fn is_undominated(
-    words: &[u64; 1024],
-    k: usize,
-    ranks: &[u8; 256],
-    rows: &[u16; 10240],
-    head: &[u16; 256],
-    next: &[u16; 1024],
-    i: usize,
-) -> bool
-    requires { ⌜ (k ≤ 1024) × (i < k) ⌝ }
-    requires { ⌜ ((j : ℕ) → j < k → RowRanged (now ranks) (now rows) j) ⌝ }
-    requires { ⌜ Chains (now rows) 1 k (now head) (now next) ⌝ }
-    ensures { λ x. ⌜ ((R : simulation.Relation) → now (words .entry) ≡ relationWords R → x
-        ≡ not (dominated R (rulesIn (now (ranks .entry)) (now (rows .entry)) k) (ruleAt (now (ranks .entry)) (now (rows .entry)) i))) ⌝ }
+// Whether no rule dominates rule i; only those of its target are looked at, by their numbers.
+fn is_undominated(words: &[u64; 1024], rows: &[u8], numbers: &[u16], i: usize) -> bool
+    requires { ⌜ ((k : ℕ) × ((i < k) × (Rows (now rows) k
+        × (now numbers ≡ keyed (λ (u : Rule). u .target) (now rows) (ruleAt (now rows) i .target) 0 k)))) ⌝ }
+    ensures { λ x. ⌜ ((k : ℕ) → now (numbers .entry)
+        ≡ keyed (λ (u : Rule). u .target) (now (rows .entry)) (ruleAt (now (rows .entry)) i .target) 0 k
+        → x ≡ not (dominated (relationIn (now (words .entry))) (rulesIn (now (rows .entry)) k) (ruleAt (now (rows .entry)) i))) ⌝ }
 {
-    let target = rows[10 * i + 1] as usize;
-    let mut link = head[target] as usize;
-    while link > 0 {
-        let j = link - 1;
-        if is_better(words, ranks, rows, i, j) {
+    let mut j: usize = 0;
+    while j < numbers.len() {
+        if is_better(words, rows, i, numbers[j] as usize) {
             return false;
         }
-        link = next[j] as usize;
+        j += 1;
     }
     true
 }
 
-// Marks the rules that none of the k rules dominates.
-pub fn mark_undominated(
-    words: &[u64; 1024],
-    k: usize,
-    ranks: &[u8; 256],
-    rows: &[u16; 10240],
-    marks: &mut [bool],
-)
-    requires { ⌜ (k ≤ 1024) × (k ≤ length (now marks)) ⌝ }
-    requires { ⌜ ((i : ℕ) → i < k → RowRanged (now ranks) (now rows) i) ⌝ }
-    ensures { λ _. ⌜ ((R : simulation.Relation) → now (words .entry) ≡ relationWords R → (i : ℕ) → i < k
-        → marked (now (marks .exit)) i ≡ not (dominated R (rulesIn (now (ranks .entry)) (now (rows .entry)) k)
-        (ruleAt (now (ranks .entry)) (now (rows .entry)) i))) ⌝ }
+// Marks the rules that no rule dominates; their targets are below n.
+pub fn mark_undominated(words: &[u64; 1024], rows: &[u8], k: usize, n: usize, marks: &mut [bool])
+    requires { ⌜ Rows (now rows) k × (k ≤ length (now marks)) ⌝ }
+    requires { ⌜ (n ≤ 256) × ((i : ℕ) → i < k → ruleAt (now rows) i .target < n) ⌝ }
+    ensures { λ _. ⌜ ((i : ℕ) → i < k → marked (now (marks .exit)) i
+        ≡ not (dominated (relationIn (now (words .entry))) (rulesIn (now (rows .entry)) k) (ruleAt (now (rows .entry)) i))) ⌝ }
 {
-    let mut head: [u16; 256] = [0; 256];
-    let mut next: [u16; 1024] = [0; 1024];
-    chain_rules(rows, k, 1, &mut head, &mut next);
+    let mut index: [u16; 1281] = [0; 1281];
+    index_rules(rows, k, Key::Target, n, &mut index);
     let mut i: usize = 0;
     while i < k {
-        marks[i] = is_undominated(words, k, ranks, rows, &head, &next, i);
+        let numbers = rules_of(&index, target_of(rows, i) as usize);
+        marks[i] = is_undominated(words, rows, numbers, i);
         i += 1;
     }
 }

@@ -34,14 +34,14 @@ pub fn reduce(table: &[u8], out: &mut [u8]) -> Reduced
     ensures { λ r. ⌜ MeetsDemand3 (now (table .entry)) (now (out .entry)) r (now (out .exit)) ⌝ }
 {
     let mut ranks: [u8; 256] = [0; 256];
-    let mut rows: [u16; 10240] = [0; 10240];
+    let mut rows: [u8; 11264] = [0; 11264];
     let decoded = decode(table, &mut ranks, &mut rows);
     let finals = decoded.finals;
     let judged = decoded.judged;
     match judged {
         Judged::Refused(cause) => Reduced::Refused(cause),
         Judged::Table(size) => {
-            let short = reduce_rows(size, finals, &ranks, &mut rows);
+            let short = reduce_rows(size, finals, &mut rows);
             let left = short.size;
             let left_finals = short.finals;
             match write(left, left_finals, &ranks, &rows, out) {

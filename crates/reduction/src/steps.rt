@@ -1,16 +1,17 @@
 // The six steps over decoded rules, in place. Each step asks that the rows it works on are in range.
 ghost use mathlib.Core.Path.{_≡_};
-ghost use mathlib.Core.List.{map, List·Memᴰ};
+ghost use mathlib.Core.List.{List, map};
 ghost use Prim.Native.Nat.{ℕ, _≤_, _<_};
-ghost use lib.ListN.{length};
-ghost use Rattle.automaton.specs.Automaton.{Rule, Automaton, WellFormed};
+ghost use lib.ListN.{length, getD};
+ghost use Rattle.automaton.specs.Automaton.{Automaton, WellFormed, renamed};
+ghost use Rattle.automaton.specs.Row.{ruleAt, rulesIn, Rows};
 ghost use Rattle.automaton.specs.Decoded.{automatonIn};
 ghost use Rattle.simulation.specs.Simulation as simulation;
-ghost use Rattle.simulation.specs.Words.{statesIn, rulesIn, relationWords};
-ghost use Rattle.simulation.specs.Inner.{RowRanged, Has};
-ghost use Rattle.reduction.specs.Steps.{Stage, among, productive, trimmed, below, quotient, pruned, kept, restricted, position, numbered};
+ghost use Rattle.simulation.specs.Words.{statesIn, relationIn};
+ghost use Rattle.simulation.specs.Inner.{Has, Simulable};
+ghost use Rattle.reduction.specs.Steps.{Stage, among, productive, trimmed, below, quotient, pruned, kept, restricted, position};
 ghost use Rattle.reduction.specs.Reduce.{reduce, reductionRounds, shortened};
-ghost use Rattle.reduction.specs.Inner.{Sound, Known, stageIn};
+ghost use Rattle.reduction.specs.Inner.{Sound, stageIn};
 use crate::blocks::name_blocks;
 use crate::blocks::number_states;
 use crate::blocks::rename_set;
@@ -24,6 +25,9 @@ use crate::rows::compact;
 use crate::rows::rename_rules;
 use automaton::Size;
 use automaton::StateSet;
+use simulation::Key;
+use simulation::Relation;
+use simulation::index_rules;
 use simulation::simulate;
 
 // What step 1 leaves: the productive states, and how many rules.
@@ -33,17 +37,16 @@ pub struct Trimmed {
 }
 
 // Step 1: drops states to which no tree belongs, and each rule that names one.
-fn trim(k: usize, ranks: &[u8; 256], rows: &mut [u16; 10240]) -> Trimmed
-    requires { ⌜ k ≤ 1024 ⌝ }
-    requires { ⌜ ((i : ℕ) → i < k → RowRanged (now ranks) (now rows) i) ⌝ }
-    ensures { λ r. ⌜ r .rules ≤ k ⌝ }
-    ensures { λ r. ⌜ ((A : Automaton) → WellFormed A → rulesIn (now (ranks .entry)) (now (rows .entry)) k ≡ A .rules
+fn trim(rows: &mut [u8], k: usize) -> Trimmed
+    requires { ⌜ Rows (now rows) k ⌝ }
+    ensures { λ r. ⌜ Rows (now (rows .exit)) (r .rules) ⌝ }
+    ensures { λ r. ⌜ ((A : Automaton) → WellFormed A → rulesIn (now (rows .entry)) k ≡ A .rules
         → Has (r .productive .words) (among (productive A))
-        × (rulesIn (now (ranks .entry)) (now (rows .exit)) (r .rules) ≡ trimmed A .rules)) ⌝ }
+        × (rulesIn (now (rows .exit)) (r .rules) ≡ trimmed A .rules)) ⌝ }
 {
-    let states = productive(k, ranks, rows);
+    let states = productive(rows, k);
     let mut marks: [bool; 1024] = [false; 1024];
-    mark_named(states, k, ranks, rows, &mut marks);
+    mark_named(states, rows, k, &mut marks);
     let rules = compact(rows, k, &marks);
     Trimmed {
         productive: states,
@@ -64,24 +67,22 @@ fn group(
     states: StateSet,
     finals: StateSet,
     n: usize,
+    rows: &mut [u8],
     k: usize,
-    ranks: &[u8; 256],
-    rows: &mut [u16; 10240],
 ) -> Grouped
-    requires { ⌜ (n ≤ 256) × (k ≤ 1024) ⌝ }
-    requires { ⌜ ((i : ℕ) → i < k → RowRanged (now ranks) (now rows) i) ⌝ }
-    requires { ⌜ Sound (stageIn n (states .words) (finals .words) (now ranks) (now rows) k) ⌝ }
-    requires { ⌜ now words ≡ relationWords (below (stageIn n (states .words) (finals .words) (now ranks) (now rows) k)) ⌝ }
-    ensures { λ r. ⌜ r .rules ≤ k ⌝ }
-    ensures { λ r. ⌜ ((S : Stage) → S ≡ stageIn n (states .words) (finals .words) (now (ranks .entry)) (now (rows .entry)) k
+    requires { ⌜ (n ≤ 256) × Rows (now rows) k ⌝ }
+    requires { ⌜ Sound (stageIn n (states .words) (finals .words) (now rows) k) ⌝ }
+    requires { ⌜ relationIn (now words) ≡ below (stageIn n (states .words) (finals .words) (now rows) k) ⌝ }
+    ensures { λ r. ⌜ Rows (now (rows .exit)) (r .rules) ⌝ }
+    ensures { λ r. ⌜ ((S : Stage) → S ≡ stageIn n (states .words) (finals .words) (now (rows .entry)) k
         → Has (r .finals .words) (among (quotient (below S) S .finals))
-        × (rulesIn (now (ranks .entry)) (now (rows .exit)) (r .rules) ≡ quotient (below S) S .rules)) ⌝ }
+        × (rulesIn (now (rows .exit)) (r .rules) ≡ quotient (below S) S .rules)) ⌝ }
 {
-    let mut names: [u16; 256] = [0; 256];
+    let mut names: [u8; 256] = [0; 256];
     name_blocks(words, n, &mut names);
-    rename_rules(ranks, rows, k, &names);
+    rename_rules(rows, k, &names);
     let mut marks: [bool; 1024] = [false; 1024];
-    mark_firsts(k, ranks, rows, &mut marks);
+    mark_firsts(rows, k, n, &mut marks);
     let rules = compact(rows, k, &marks);
     Grouped {
         finals: rename_set(finals, states, n, &names),
@@ -90,16 +91,15 @@ fn group(
 }
 
 // Step 4: drops together all dominated rules; returns how many are left.
-fn prune(words: &[u64; 1024], k: usize, ranks: &[u8; 256], rows: &mut [u16; 10240]) -> usize
-    requires { ⌜ k ≤ 1024 ⌝ }
-    requires { ⌜ ((i : ℕ) → i < k → RowRanged (now ranks) (now rows) i) ⌝ }
-    ensures { λ r. ⌜ r ≤ k ⌝ }
-    ensures { λ r. ⌜ ((R : simulation.Relation) (S : Stage) → now (words .entry) ≡ relationWords R
-        → rulesIn (now (ranks .entry)) (now (rows .entry)) k ≡ S .rules
-        → rulesIn (now (ranks .entry)) (now (rows .exit)) r ≡ pruned R S .rules) ⌝ }
+fn prune(words: &[u64; 1024], n: usize, rows: &mut [u8], k: usize) -> usize
+    requires { ⌜ Rows (now rows) k ⌝ }
+    requires { ⌜ (n ≤ 256) × ((i : ℕ) → i < k → ruleAt (now rows) i .target < n) ⌝ }
+    ensures { λ r. ⌜ Rows (now (rows .exit)) r ⌝ }
+    ensures { λ r. ⌜ ((S : Stage) → rulesIn (now (rows .entry)) k ≡ S .rules
+        → rulesIn (now (rows .exit)) r ≡ pruned (relationIn (now (words .entry))) S .rules) ⌝ }
 {
     let mut marks: [bool; 1024] = [false; 1024];
-    mark_undominated(words, k, ranks, rows, &mut marks);
+    mark_undominated(words, rows, k, n, &mut marks);
     compact(rows, k, &marks)
 }
 
@@ -110,18 +110,17 @@ pub struct Restricted {
 }
 
 // Step 5: keeps final states and, repeatedly, the children of rules whose target is kept.
-fn restrict(finals: StateSet, k: usize, ranks: &[u8; 256], rows: &mut [u16; 10240]) -> Restricted
-    requires { ⌜ k ≤ 1024 ⌝ }
-    requires { ⌜ ((i : ℕ) → i < k → RowRanged (now ranks) (now rows) i) ⌝ }
-    ensures { λ r. ⌜ r .rules ≤ k ⌝ }
+fn restrict(finals: StateSet, rows: &mut [u8], k: usize) -> Restricted
+    requires { ⌜ Rows (now rows) k ⌝ }
+    ensures { λ r. ⌜ Rows (now (rows .exit)) (r .rules) ⌝ }
     ensures { λ r. ⌜ ((S : Stage) → Sound S → Has (finals .words) (among (S .finals))
-        → rulesIn (now (ranks .entry)) (now (rows .entry)) k ≡ S .rules
+        → rulesIn (now (rows .entry)) k ≡ S .rules
         → Has (r .kept .words) (among (kept S))
-        × (rulesIn (now (ranks .entry)) (now (rows .exit)) (r .rules) ≡ restricted S .rules)) ⌝ }
+        × (rulesIn (now (rows .exit)) (r .rules) ≡ restricted S .rules)) ⌝ }
 {
-    let states = reachable(finals, k, ranks, rows);
+    let states = reachable(finals, rows, k);
     let mut marks: [bool; 1024] = [false; 1024];
-    mark_targets(states, k, rows, &mut marks);
+    mark_targets(states, rows, k, &mut marks);
     let rules = compact(rows, k, &marks);
     Restricted {
         kept: states,
@@ -136,25 +135,18 @@ pub struct Numbered {
 }
 
 // Step 6: numbers the kept states in order.
-fn renumber(
-    states: StateSet,
-    finals: StateSet,
-    n: usize,
-    k: usize,
-    ranks: &[u8; 256],
-    rows: &mut [u16; 10240],
-) -> Numbered
-    requires { ⌜ (n ≤ 256) × (k ≤ 1024) ⌝ }
-    requires { ⌜ ((i : ℕ) → i < k → RowRanged (now ranks) (now rows) i) ⌝ }
+fn renumber(states: StateSet, finals: StateSet, n: usize, rows: &mut [u8], k: usize) -> Numbered
+    requires { ⌜ (n ≤ 256) × Rows (now rows) k ⌝ }
     ensures { λ r. ⌜ ((S : Stage) → Sound S → statesIn n (states .words) ≡ S .states → Has (finals .words) (among (S .finals))
-        → rulesIn (now (ranks .entry)) (now (rows .entry)) k ≡ S .rules
+        → rulesIn (now (rows .entry)) k ≡ S .rules
         → (r .states ≡ length (S .states))
         × ((statesIn (r .states) (r .finals .words) ≡ map (position (S .states)) (S .finals))
-        × (rulesIn (now (ranks .entry)) (now (rows .exit)) k ≡ numbered (now (ranks .entry)) S .rules))) ⌝ }
+        × (rulesIn (now (rows .exit)) k ≡ map (renamed (position (S .states))) (S .rules)))) ⌝ }
+    ensures { λ r. ⌜ Rows (now (rows .exit)) k ⌝ }
 {
-    let mut names: [u16; 256] = [0; 256];
+    let mut names: [u8; 256] = [0; 256];
     let count = number_states(states, n, &mut names);
-    rename_rules(ranks, rows, k, &names);
+    rename_rules(rows, k, &names);
     Numbered {
         states: count,
         finals: rename_set(finals, states, n, &names),
@@ -168,36 +160,33 @@ pub struct Short {
     pub rounds: usize,
 }
 
-// Steps 3 to 6, on what step 1 leaves of n states and step 2 found.
+// Steps 3 to 6, on what step 1 leaves of the states and step 2 found.
 fn shorten(
     words: &[u64; 1024],
     states: StateSet,
     finals: StateSet,
     size: Size,
-    ranks: &[u8; 256],
-    rows: &mut [u16; 10240],
+    rows: &mut [u8],
     rounds: usize,
 ) -> Short
-    requires { ⌜ (size .states ≤ 256) × (size .rules ≤ 1024) ⌝ }
-    requires { ⌜ ((u : Rule) → List·Memᴰ u (rulesIn (now ranks) (now rows) (size .rules)) → Known (now ranks) u) ⌝ }
-    requires { ⌜ Sound (stageIn (size .states) (states .words) (finals .words) (now ranks) (now rows) (size .rules)) ⌝ }
-    requires { ⌜ now words
-        ≡ relationWords (below (stageIn (size .states) (states .words) (finals .words) (now ranks) (now rows) (size .rules))) ⌝ }
+    requires { ⌜ (size .states ≤ 256) × Rows (now rows) (size .rules) ⌝ }
+    requires { ⌜ Sound (stageIn (size .states) (states .words) (finals .words) (now rows) (size .rules)) ⌝ }
+    requires { ⌜ relationIn (now words) ≡ below (stageIn (size .states) (states .words) (finals .words) (now rows) (size .rules)) ⌝ }
     ensures { λ r. ⌜ (r .rounds ≡ rounds) × (r .size .symbols ≡ size .symbols) ⌝ }
-    ensures { λ r. ⌜ ((S : Stage)
-        → S ≡ stageIn (size .states) (states .words) (finals .words) (now (ranks .entry)) (now (rows .entry)) (size .rules)
+    ensures { λ r. ⌜ Rows (now (rows .exit)) (r .size .rules) ⌝ }
+    ensures { λ r. ⌜ ((S : Stage) → S ≡ stageIn (size .states) (states .words) (finals .words) (now (rows .entry)) (size .rules)
         → (r .size .states ≡ length (shortened S .states))
         × ((statesIn (r .size .states) (r .finals .words) ≡ map (position (shortened S .states)) (shortened S .finals))
-        × (rulesIn (now (ranks .entry)) (now (rows .exit)) (r .size .rules) ≡ numbered (now (ranks .entry)) (shortened S) .rules))) ⌝ }
+        × (rulesIn (now (rows .exit)) (r .size .rules) ≡ map (renamed (position (shortened S .states))) (shortened S .rules)))) ⌝ }
 {
     let n = size.states;
-    let grouped = group(words, states, finals, n, size.rules, ranks, rows);
+    let grouped = group(words, states, finals, n, rows, size.rules);
     let blocks = grouped.finals;
-    let undominated = prune(words, grouped.rules, ranks, rows);
-    let reached = restrict(blocks, undominated, ranks, rows);
+    let undominated = prune(words, n, rows, grouped.rules);
+    let reached = restrict(blocks, rows, undominated);
     let kept = reached.kept;
     let rules = reached.rules;
-    let numbered = renumber(kept, blocks, n, rules, ranks, rows);
+    let numbered = renumber(kept, blocks, n, rows, rules);
     let left = numbered.finals;
     Short {
         size: Size {
@@ -210,37 +199,43 @@ fn shorten(
     }
 }
 
-// All six steps, on a decoded table.
-pub fn reduce_rows(
-    size: Size,
-    finals: StateSet,
-    ranks: &[u8; 256],
-    rows: &mut [u16; 10240],
-) -> Short
-    requires { ⌜ size .symbols ≤ 256 ⌝ }
-    requires { ⌜ WellFormed (automatonIn size (finals .words) (now ranks) (now rows)) ⌝ }
-    ensures { λ r. ⌜ automatonIn (r .size) (r .finals .words) (now (ranks .entry)) (now (rows .exit))
-        ≡ reduce (automatonIn size (finals .words) (now (ranks .entry)) (now (rows .entry))) ⌝ }
-    ensures { λ r. ⌜ r .rounds ≡ reductionRounds (automatonIn size (finals .words) (now (ranks .entry)) (now (rows .entry))) ⌝ }
-    ensures { λ r. ⌜ r .size .symbols ≡ size .symbols ⌝ }
+// Step 2: the simulation preorder on what step 1 leaves, over words that are 0; returns its rounds.
+fn simulate_left(states: StateSet, size: Size, rows: &[u8], words: &mut [u64; 1024]) -> usize
+    requires { ⌜ (size .states ≤ 256) × Rows (now rows) (size .rules) ⌝ }
+    requires { ⌜ Simulable (rulesIn (now rows) (size .rules)) (statesIn (size .states) (states .words)) ⌝ }
+    requires { ⌜ ((i : ℕ) → getD (now words) i 0 ≡ 0) ⌝ }
+    ensures { λ r. ⌜ r ≡ simulation.rounds
+        (rulesIn (now (rows .entry)) (size .rules)) (statesIn (size .states) (states .words)) ⌝ }
+    ensures { λ r. ⌜ relationIn (now (words .exit)) ≡ simulation.relation
+        (rulesIn (now (rows .entry)) (size .rules)) (statesIn (size .states) (states .words)) ⌝ }
 {
-    let n = size.states;
-    let trimmed = trim(size.rules, ranks, rows);
+    let mut index: [u16; 1281] = [0; 1281];
+    index_rules(rows, size.rules, Key::Target, size.states, &mut index);
+    simulate(states, size, rows, &index, words)
+}
+
+// All six steps, on a decoded table.
+pub fn reduce_rows(size: Size, finals: StateSet, rows: &mut [u8]) -> Short
+    requires { ⌜ Rows (now rows) (size .rules) ⌝ }
+    requires { ⌜ ((ranks : List ℕ) × WellFormed (automatonIn size (finals .words) ranks (now rows))) ⌝ }
+    ensures { λ r. ⌜ ((ranks : List ℕ) → WellFormed (automatonIn size (finals .words) ranks (now (rows .entry)))
+        → (automatonIn (r .size) (r .finals .words) ranks (now (rows .exit))
+        ≡ reduce (automatonIn size (finals .words) ranks (now (rows .entry))))
+        × (r .rounds ≡ reductionRounds (automatonIn size (finals .words) ranks (now (rows .entry))))) ⌝ }
+    ensures { λ r. ⌜ Rows (now (rows .exit)) (r .size .rules) × (r .size .symbols ≡ size .symbols) ⌝ }
+{
+    let trimmed = trim(rows, size.rules);
     let states = trimmed.productive;
-    let rules = trimmed.rules;
-    let relation = simulate(states, n, rules, ranks, rows);
     let left = Size {
-        states: n,
+        states: size.states,
         symbols: size.symbols,
-        rules,
+        rules: trimmed.rules,
     };
-    shorten(
-        &relation.words,
-        states,
-        finals,
-        left,
-        ranks,
-        rows,
-        relation.rounds,
-    )
+    let mut relation = Relation {
+        words: [0; 1024],
+        rounds: 0,
+    };
+    let rounds = simulate_left(states, left, rows, &mut relation.words);
+    relation.rounds = rounds;
+    shorten(&relation.words, states, finals, left, rows, rounds)
 }

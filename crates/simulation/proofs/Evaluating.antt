@@ -2,70 +2,56 @@
 use Prim.Native.Nat.{ℕ, _+_, _-_, _*_, _≤_, _<_}
 use native.Mathlib.Omega.{arith}
 use mathlib.Core.Path.{_≡_, refl, sym, ap, _∙_}
-use mathlib.Core.List.{List, [], _∷_, reverse}
-use mathlib.Core.Bool.{true}
+use mathlib.Core.List.{List, [], _∷_, reverse, List·Memᴰ}
 use lib.ListN.{length, take, drop, getD, length-drop}
-use lib.Seq.{length-take-le, getD-take}
-use lib.Dec.{ltb}
 use borrow.Author.Tests.{leb-true, le-leb, lt-leb, lt-ltb, le-ltb}
-use Rattle.automaton.specs.Lists.{from}
 use Rattle.automaton.specs.Automaton.{Rule}
-use Rattle.automaton.specs.StateSet.{member}
+use Rattle.automaton.specs.Row.{ruleAt, rulesIn, Row}
 use Rattle.automaton.specs.Read.{Read, found, refused, _>>=_, _>>_, check, mapRead}
 use Rattle.automaton.specs.Bytes.{number2, numbers}
 use Rattle.automaton.specs.Inner.{over}
 use Rattle.automaton.proofs.Inversion.{refused≢found, checked}
-use Rattle.automaton.proofs.Fields.{numbers-step, numbers-end}
+use Rattle.automaton.proofs.Fields.{Bytes, numbers-step, numbers-end}
 use Rattle.automaton.specs.declared.refusal.Refusal.{Refusal}
 use Rattle.simulation.specs.Tree.{Tree, node, any}
 use Rattle.simulation.specs.Postfix.{treesIn, push, pushAll}
-use Rattle.simulation.specs.Words.{rulesIn}
-use Rattle.simulation.specs.Inner.{RowRanged, keyed, leadsTo, Represents, heightOf, Stacked}
+use Rattle.simulation.specs.Index.{numbersOf}
+use Rattle.simulation.specs.Inner.{Has, Evaluable, leadsTo, Represents, heightOf, Stacked}
 use Rattle.simulation.specs.declared.evaluation.Height.{Height}
 use Rattle.simulation.specs.declared.evaluation.Height.the-variants.{At, Refused}
+use Rattle.simulation.proofs.Indexing.{keyed-members}
 use Rattle.simulation.proofs.Stacks.{represents-put, node-belongs}
 
 -- One node.
-module _ (m : ℕ) (ranks : List ℕ) (room : m ≤ length ranks) (trees : List Tree) (f : ℕ) where
-  symbols : length (take m ranks) ≡ m
-  symbols = length-take-le m ranks room
-
-  pub push-symbol : m ≤ f → push (take m ranks) trees f ≡ refused 9
+module _ (ranks : List ℕ) (trees : List Tree) (f : ℕ) where
+  pub push-symbol : length ranks ≤ f → push ranks trees f ≡ refused 9
   unfolding push check _>>_
-  push-symbol h = rw (le-ltb f (length (take m ranks)) (omega (arith, symbols)))
+  push-symbol h = rw (le-ltb f (length ranks) h)
 
-  module _ (known : f < m) where
-    has-symbol : ltb f (length (take m ranks)) ≡ true
-    has-symbol = lt-ltb f (length (take m ranks)) (omega (arith, symbols))
-
-    rank : getD (take m ranks) f 0 ≡ getD ranks f 0
-    rank = getD-take m ranks f 0 known
-
-    pub push-shape : length trees < getD ranks f 0 → push (take m ranks) trees f ≡ refused 10
+  module _ (known : f < length ranks) where
+    pub push-shape : length trees < getD ranks f 0 → push ranks trees f ≡ refused 10
     unfolding push check _>>_
-    push-shape h = rw (has-symbol, rank, lt-leb (getD ranks f 0) (length trees) h)
+    push-shape h = rw (lt-ltb f (length ranks) known, lt-leb (getD ranks f 0) (length trees) h)
 
     module _ (enough : getD ranks f 0 ≤ length trees) where
       left : length (drop (getD ranks f 0) trees) ≡ length trees - getD ranks f 0
       left = length-drop (getD ranks f 0) trees
 
-      pub push-bound : 1024 ≤ length trees - getD ranks f 0 → push (take m ranks) trees f ≡ refused 11
+      pub push-bound : 1024 ≤ length trees - getD ranks f 0 → push ranks trees f ≡ refused 11
       unfolding push check _>>_
       push-bound h =
           rw (
-            has-symbol,
-            rank,
+            lt-ltb f (length ranks) known,
             le-leb (getD ranks f 0) (length trees) enough,
             lt-leb (1 + length (drop (getD ranks f 0) trees)) 1024 (omega (arith, left)),
           )
 
-      pub push-finds : length trees - getD ranks f 0 < 1024 → push (take m ranks) trees f
+      push-finds : length trees - getD ranks f 0 < 1024 → push ranks trees f
           ≡ found (node f (treesIn (reverse (take (getD ranks f 0) trees))) ∷ drop (getD ranks f 0) trees)
       unfolding push check _>>_
       push-finds h =
           rw (
-            has-symbol,
-            rank,
+            lt-ltb f (length ranks) known,
             le-leb (getD ranks f 0) (length trees) enough,
             le-leb (1 + length (drop (getD ranks f 0) trees)) 1024 (omega (arith, left)),
           )
@@ -79,28 +65,33 @@ stacked-refused rules stack words answer e h = record {
   represents = λ trees is. absurd (refused≢found (sym e ∙ is));
 }
 
+-- The rules that an index has for a symbol.
+pub ranked-rules : (k : ℕ) (ranks rows index : List ℕ) → Evaluable k ranks rows index → (f : ℕ) → f < length ranks
+    → (i : ℕ) → List·Memᴰ i (numbersOf index f) → Row rows i × (getD ranks f 0 ≡ length (ruleAt rows i .children))
+ranked-rules k ranks rows index v f known i m =
+    let (_, low, symbol) = keyed-members (λ (u : Rule). u .symbol) rows f 0 k i (rw (v .index-is .numbers f known) at m) in
+    (v .rules .row i (omega arith), rw (← symbol) (sym (v .arity i (omega arith))))
+
 -- A node whose children are there: its set stands where theirs stood.
-pub stacked-node : (m k : ℕ) (ranks rows : List ℕ) → m ≤ length ranks → 10 * k ≤ length rows
-    → ((i : ℕ) → i < k → RowRanged ranks rows i) → (stack : List ℕ) (trees : List Tree) (height f : ℕ) → length trees ≡ height
-    → Represents (rulesIn ranks rows k) stack trees → f < m → getD ranks f 0 ≤ height → height - getD ranks f 0 < 1024
-    → 4 * (height - getD ranks f 0 + 1) ≤ length stack → (ws : List ℕ) → length ws ≡ 4
-    → ((q : ℕ) → q < 256
-    → member ws q ≡ any (leadsTo ranks rows stack (height - getD ranks f 0) q) (keyed rows 0 f 0 k))
-    → Stacked (rulesIn ranks rows k) (push (take m ranks) trees f) (over stack (4 * (height - getD ranks f 0)) ws)
+pub stacked-node : (k : ℕ) (ranks rows index : List ℕ) → Evaluable k ranks rows index → Bytes rows
+    → (stack : List ℕ) (trees : List Tree) (height f : ℕ) → length trees ≡ height
+    → Represents (rulesIn rows k) stack trees → f < length ranks → getD ranks f 0 ≤ height → height - getD ranks f 0 < 1024
+    → 4 * (height - getD ranks f 0) + 4 ≤ length stack → (set : List ℕ) → length set ≡ 4
+    → Has set (λ (q : ℕ). any (leadsTo rows (drop (4 * (height - getD ranks f 0)) stack) q) (numbersOf index f))
+    → Stacked (rulesIn rows k) (push ranks trees f) (over stack (4 * (height - getD ranks f 0)) set)
     (At (height - getD ranks f 0 + 1))
 unfolding heightOf mapRead
-stacked-node m k ranks rows room rows-room ranged stack trees height f high represents known enough few long ws four is =
+stacked-node k ranks rows index v bytes stack trees height f high represents known enough few room set four is =
     let below : length (drop (getD ranks f 0) trees) ≡ length trees - getD ranks f 0 = length-drop (getD ranks f 0) trees in
-    let e = push-finds m ranks room trees f known (omega arith) (omega arith) in
+    let e = push-finds ranks trees f known (omega arith) (omega arith) in
     record {
       height = rw e (ap found (omega arith));
       represents = λ next found-next.
           let same : node f (treesIn (reverse (take (getD ranks f 0) trees))) ∷ drop (getD ranks f 0) trees ≡ next = cc in
           rw (← same)
-          (represents-put (rulesIn ranks rows k) stack (getD ranks f 0) trees _ ws (height - getD ranks f 0) (omega arith) four
-          (omega arith)
-          (λ q low. is q low
-          ∙ node-belongs ranks rows k rows-room ranged stack trees represents f (omega arith) _ q (omega arith))
+          (represents-put (rulesIn rows k) stack (getD ranks f 0) trees _ set (height - getD ranks f 0) (omega arith) four room
+          (λ q low. is q low ∙ rw (v .index-is .numbers f known)
+          (node-belongs ranks rows k bytes (v .arity) stack trees represents f (omega arith) (height - getD ranks f 0) q (omega arith)))
           represents);
     }
 

@@ -2,13 +2,15 @@
 -- simulation, reflexive and transitive.
 use Prim.Native.Nat.{ℕ, _*_, _-_, _≤_, _<_}
 use native.Mathlib.Omega.{arith}
-use mathlib.Core.Path.{subst⁻¹}
+use mathlib.Core.Path.{subst⁻¹, sym, ap, _∙_}
 use mathlib.Core.List.{List, List·Memᴰ, List·Memᴰ·head, List·Memᴰ·tail}
+use lib.ListN.{getD}
 use Rattle.automaton.specs.Lists.{All, also, from}
-use Rattle.automaton.specs.Automaton.{Automaton, WellFormed, WellFormedRule}
-use Rattle.automaton.proofs.WrittenBytes.{length-from}
+use Rattle.automaton.specs.Automaton.{Automaton, WellFormed}
+use Rattle.automaton.proofs.Ranges.{length-from}
 use Rattle.simulation.specs.Simulation.{Simulates}
 use Rattle.simulation.specs.Query.{simulationOf, roundsOf}
+use Rattle.simulation.specs.Inner.{Simulable}
 use Rattle.simulation.proofs.Ranges.{from-member, member-from}
 use Rattle.simulation.proofs.Refinement.{Within}
 use Rattle.simulation.proofs.Maximality as maximality
@@ -25,11 +27,18 @@ module _ (A : Automaton) (w : WellFormed A) where
   member-below : (q : ℕ) → List·Memᴰ q (from 0 (A .states)) → q < A .states
   member-below q m = let h = member-from (A .states) 0 q m in omega arith
 
+  -- The rules name the automaton's states alone, and a symbol has one rank.
+  pub simulable-all : Simulable (A .rules) (from 0 (A .states))
+  simulable-all = record {
+    targets = λ u m. below-member (u .target) (all-member (w .rules) m .target);
+    children = λ u m q c. below-member q (all-member (all-member (w .rules) m .children) c);
+    arity = λ u v m n e.
+        all-member (w .rules) m .arity ∙ ap (λ (f : ℕ). getD (A .ranks) f 0) e ∙ sym (all-member (w .rules) n .arity);
+  }
+
   states-closed : Closed (A .rules) (from 0 (A .states))
   unfolding Closed
-  states-closed u m t q c =
-      let r : WellFormedRule A u = all-member (w .rules) m in
-      below-member q (all-member (r .children) c)
+  states-closed u m t q c = simulable-all .children u m q c
 
   pub preorder-simulates : Simulates (A .rules) (A .rules) (λ (q r : ℕ). Within (simulationOf A) q r)
   unfolding simulationOf

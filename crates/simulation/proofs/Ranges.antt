@@ -4,9 +4,8 @@ use native.Mathlib.Nat.{add-zero, add-suc, suc-add, zero-add}
 use native.Mathlib.Omega.{arith}
 use native.Mathlib.Decide.{ℕ-discrete}
 use mathlib.Core.Path.{_≡_, refl, sym, ap, _∙_}
-use mathlib.Core.List.{List, [], _∷_, _++_, map, List·Memᴰ, List·Memᴰ·head, List·Memᴰ·tail, List·Memᴰ·not-nil}
+use mathlib.Core.List.{List, [], _∷_, _++_, List·Memᴰ, List·Memᴰ·head, List·Memᴰ·tail, List·Memᴰ·not-nil}
 use mathlib.Core.Bool.{Bool, true, false, cond}
-use lib.ListN.{getD}
 use lib.Dec.{eqb}
 use borrow.Author.Tests.{eqb-true, eqb-false}
 use Rattle.automaton.specs.Lists.{All, none, also, Distinct, bare, new, from, keep}
@@ -30,12 +29,6 @@ pub from-distinct : (i n : ℕ) → Distinct (from i n)
 unfolding from
 from-distinct i zero = bare
 from-distinct i (suc n) = new (λ m. let h = member-from n (suc i) i m in omega arith) (from-distinct (suc i) n)
-
-pub map-from-at : (f : ℕ → ℕ) (i n j : ℕ) → j < n → getD (map f (from i n)) j 0 ≡ f (i + j)
-unfolding from
-map-from-at f i zero j h = absurd (omega arith)
-map-from-at f i (suc n) zero h = rw add-zero
-map-from-at f i (suc n) (suc j) h = rw (add-suc, ← suc-add) (map-from-at f (suc i) n j (omega arith))
 
 pub from-append : (i a b : ℕ) → from i (a + b) ≡ from i a ++ from (i + a) b
 unfolding from

@@ -1,134 +1,46 @@
 -- A relation in words: a bit is a pair, the words' bytes are the rows, and the bits that are set are the pairs.
 use Prim.Native.Nat.{ℕ, zero, suc, _+_, _-_, _*_, _/_, _%_, _^_, _≤_, _<_}
 use mathlib.Core.Path.{_≡_, refl, sym, ap, ap₂, _∙_}
-use mathlib.Core.List.{List, [], _∷_, _++_, map, map-append, append-assoc}
-use mathlib.Core.Bool.{Bool, true, false, cond}
+use mathlib.Core.List.{List, [], _∷_, _++_, map, map-append}
+use mathlib.Core.Bool.{Bool, true, false, cond, true≢false, false≢true}
 use native.Mathlib.Nat.{add-zero, add-suc, suc-add, zero-add, add-assoc}
-use native.Mathlib.Numerals.{add-one}
+use native.Mathlib.Numerals.{add-one, add-two, add-three}
 use native.Mathlib.Omega.{arith}
-use lib.ListN.{length, getD, take, set, length-append, length-map, List·getD-append}
-use lib.Seq.{getD-append-add, take-at, take-suc, sets-eq}
+use lib.ListN.{length, getD, set, replicate, length-append, length-map, List·getD-append}
+use lib.Seq.{getD-append-add, sets-eq}
 use lib.Dec.{eqb}
-use lib.Bits.{bitOr, or-lt}
-use lib.Pow.{pow-lt, mod-pow-add, shr-shr, shr-lt}
+use lib.Pow.{mod-pow-add, shr-shr, shr-lt}
 use lib.Count.{ones, ones-step}
 use borrow.Author.Tests.{eq-eqb, ne-eqb, eqb-true, eqb-false}
-use Rattle.automaton.specs.Lists.{none, from, keep}
-use Rattle.automaton.specs.StateSet.{member, words, emptySet, replaced, withState, withAll, setOf}
+use Rattle.automaton.specs.Lists.{from, keep}
+use Rattle.automaton.specs.StateSet.{member, emptySet, withState, withAll, setOf}
 use Rattle.automaton.specs.Inner.{over}
-use Rattle.automaton.proofs.StateSets.{words-getD, bit, bit-suc}
-use Rattle.automaton.proofs.StateSets.{member-setOf, length-setOf, states-of-set}
-use Rattle.automaton.proofs.WrittenBytes.{from-step, length-from, over-then}
+use Rattle.automaton.proofs.StateSets.{bit, bit-suc, states-of-set}
+use Rattle.automaton.proofs.Ranges.{from-low, from-rising, from-step, length-from}
+use Rattle.automaton.proofs.WrittenBytes.{over-then, kept-few}
 use Rattle.automaton.proofs.Keeping.{keep-append}
 use Rattle.simulation.specs.Simulation.{Relation, related}
 use Rattle.simulation.specs.Query.{bitsFrom, rowBytes, relationRows}
-use Rattle.simulation.specs.Words.{statesIn, rowWords, rowsWords, relationWords}
-use Rattle.simulation.specs.Inner.{byteOf, bytesOf, onesOf}
-use Rattle.automaton.proofs.Ranges.{from-low, from-rising}
-use Rattle.simulation.proofs.Ranges.{map-from-at, from-append, keep-none, elem-keep}
+use Rattle.simulation.specs.Words.{statesIn, relationIn}
+use Rattle.simulation.specs.Inner.{byteOf, bytesOf, onesIn, onesOf}
+use Rattle.simulation.proofs.Ranges.{from-append, keep-none}
+use Rattle.simulation.proofs.Rows.{related-in}
+use Rattle.simulation.proofs.Entering.{entry-at}
 use Rattle.simulation.proofs.Pairs.{pairsIn}
 
 pub all-states-in : (n : ℕ) → n ≤ 256 → statesIn n (setOf (from 0 n)) ≡ from 0 n
 unfolding statesIn
 all-states-in n h = states-of-set (from 0 n) n h (from-low 0 n n (omega arith)) (from-rising 0 n)
 
--- The words of a set fit 64 bits.
-
-Small : List ℕ → Type 0
-Small ws = (i : ℕ) → getD ws i 0 < 18446744073709551616
-
-small-words : (f : ℕ → ℕ) → ((i : ℕ) → f i < 18446744073709551616) → Small (words f)
-unfolding Small words
-small-words f h zero = h 0
-small-words f h (suc zero) = h 1
-small-words f h (suc (suc zero)) = h 2
-small-words f h (suc (suc (suc zero))) = h 3
-small-words f h (suc (suc (suc (suc i)))) = omega arith
-
-small-with : (ws : List ℕ) (q : ℕ) → Small ws → Small (withState ws q)
-unfolding withState replaced Small
-small-with ws q h = small-words _ (λ i. go i (eqb i (q / 64)))
-  where
-    go : (i : ℕ) (t : Bool)
-        → cond t (bitOr (getD ws (q / 64) 0) (2 ^ (q % 64))) (getD ws i 0) < 18446744073709551616
-    go i true = or-lt 64 (getD ws (q / 64) 0) (2 ^ (q % 64)) (h (q / 64)) (pow-lt {j = 64} (omega arith))
-    go i false = h i
-
-small-all : (ws qs : List ℕ) → Small ws → Small (withAll ws qs)
-unfolding withAll
-small-all ws [] h = h
-small-all ws (q ∷ qs) h = small-all (withState ws q) qs (small-with ws q h)
-
-small-set : (qs : List ℕ) → Small (setOf qs)
-unfolding setOf emptySet
-small-set qs = small-all emptySet qs (small-words _ (λ i. omega arith))
-
--- Rows.
-
-module _ (R : Relation) where
-  pub length-row : (q : ℕ) → length (rowWords R q) ≡ 4
-  unfolding rowWords
-  length-row q = length-setOf (keep (related R q) (from 0 256))
-
-  pub length-rows : (i n : ℕ) → length (rowsWords R (from i n)) ≡ 4 * n
-  unfolding rowsWords from
-  length-rows i zero = refl
-  length-rows i (suc n) = rw (length-append, length-row, length-rows (suc i) n) (omega arith)
-
-  pub length-relation : length (relationWords R) ≡ 1024
-  unfolding relationWords
-  length-relation = length-rows 0 256
-
-  rows-at : (n i q j : ℕ) → q < n → j < 4 → getD (rowsWords R (from i n)) (4 * q + j) 0 ≡ getD (rowWords R (i + q)) j 0
-  unfolding rowsWords from
-  rows-at zero i q j h l = absurd (omega arith)
-  rows-at (suc n) i zero j h l =
-      rw (zero-add, add-zero)
-      (List·getD-append (rowWords R i) (rowsWords R (from (suc i) n)) 0 j (omega (arith, length-row i)))
-  rows-at (suc n) i (suc q) j h l =
-      let place : 4 * suc q + j ≡ length (rowWords R i) + (4 * q + j) = omega (arith, length-row i) in
-      rw (place, getD-append-add, add-suc, ← suc-add) (rows-at n (suc i) q j (omega arith) l)
-
-  pub word-at : (q j : ℕ) → q < 256 → j < 4 → getD (relationWords R) (4 * q + j) 0 ≡ getD (rowWords R q) j 0
-  unfolding relationWords
-  word-at q j h l = rows-at 256 0 q j h l ∙ ap (λ (p : ℕ). getD (rowWords R p) j 0) (zero-add q)
-
-  pub row-word-small : (q j : ℕ) → getD (rowWords R q) j 0 < 18446744073709551616
-  unfolding rowWords Small
-  row-word-small q = small-set (keep (related R q) (from 0 256))
-
-  pub row-member : (q r : ℕ) → r < 256 → member (rowWords R q) r ≡ related R q r
-  unfolding rowWords
-  row-member q r h =
-      member-setOf (keep (related R q) (from 0 256)) r h
-      ∙ elem-keep (related R q) 0 256 r (omega arith) (omega arith)
-
-  pub row-bit : (q j s : ℕ) → j < 4 → s < 64 → bit (getD (rowWords R q) j 0) s ≡ related R q (64 * j + s)
-  unfolding bit member
-  row-bit q j s h l =
-      let word : (64 * j + s) / 64 ≡ j = omega arith in
-      let place : (64 * j + s) % 64 ≡ s = omega arith in
-      rw (word, place) at (row-member q (64 * j + s) (omega arith))
-
-  pub word-bit : (q r : ℕ) → q < 256 → r < 256
-      → eqb (getD (relationWords R) (4 * q + r / 64) 0 / 2 ^ (r % 64) % 2) 1 ≡ related R q r
-  unfolding member
-  word-bit q r h l = rw (word-at q (r / 64) h (omega arith)) (row-member q r l)
-
--- A row's bytes.
+-- The lowest bits of a number.
 
 digit : (t : Bool) (x : ℕ) → x < 2 → eqb x 1 ≡ t → x ≡ cond t 1 0
 digit true x h e = eqb-true x 1 e
 digit false x h e = let other : x ≡ 1 → ⊥ = eqb-false x 1 e in omega arith
 
-pub bit-shifted : (w s k : ℕ) → bit (w / 2 ^ s) k ≡ bit w (s + k)
+bit-shifted : (w s k : ℕ) → bit (w / 2 ^ s) k ≡ bit w (s + k)
 unfolding bit
 bit-shifted w s k = rw shr-shr
-
-lowest : (t : Bool) (x : ℕ) → (bit (cond t 1 0 + 2 * x) 0 ≡ t) × ((cond t 1 0 + 2 * x) / 2 ≡ x)
-unfolding bit
-lowest true x = (eq-eqb ((1 + 2 * x) / 2 ^ 0 % 2) 1 (omega arith), omega arith)
-lowest false x = (ne-eqb ((0 + 2 * x) / 2 ^ 0 % 2) 1 (omega arith), omega arith)
 
 low-bits : (R : Relation) (q n r x : ℕ) → ((k : ℕ) → k < n → bit x k ≡ related R q (r + k))
     → x % 2 ^ n ≡ bitsFrom R q r n
@@ -143,64 +55,7 @@ low-bits R q (suc n) r x h =
     let split : x % 2 ^ (n + 1) ≡ x / 2 ^ 1 % 2 ^ n * 2 ^ 1 + x % 2 ^ 1 = mod-pow-add x n 1 in
     ap (λ (m : ℕ). x % 2 ^ m) (sym (add-one n)) ∙ split ∙ omega arith
 
-module _ (R : Relation) where
-  byte-is : (q i : ℕ) → q < 256 → i < 32 → byteOf (relationWords R) (32 * q + i) ≡ bitsFrom R q (8 * i) 8
-  unfolding byteOf
-  byte-is q i h l =
-      let word : (32 * q + i) / 8 ≡ 4 * q + i / 8 = omega arith in
-      let place : (32 * q + i) % 8 ≡ i % 8 = omega arith in
-      rw (word, place, word-at R q (i / 8) h (omega arith))
-      (low-bits R q 8 (8 * i) (getD (rowWords R q) (i / 8) 0 / 2 ^ (8 * (i % 8)))
-      (λ k b. bit-shifted (getD (rowWords R q) (i / 8) 0) (8 * (i % 8)) k
-      ∙ row-bit R q (i / 8) (8 * (i % 8) + k) (omega arith) (omega arith) ∙ ap (related R q) (omega arith)))
-
-  row-bytes : (n q i : ℕ) → q < 256 → i + n ≤ 32 → map (byteOf (relationWords R)) (from (32 * q + i) n) ≡ rowBytes R q i n
-  unfolding rowBytes from
-  row-bytes zero q i h l = refl
-  row-bytes (suc n) q i h l =
-      rw (byte-is q i h (omega arith), ← add-suc (32 * q) i, row-bytes n q (suc i) h (omega arith))
-
-  next-row : (n q : ℕ) → q < 256 → map (byteOf (relationWords R)) (from (32 * q) (32 * suc n))
-      ≡ rowBytes R q 0 32 ++ map (byteOf (relationWords R)) (from (32 * suc q) (32 * n))
-  next-row n q h =
-      let more : 32 * suc n ≡ 32 + 32 * n = omega arith in
-      let next : 32 * q + 32 ≡ 32 * suc q = omega arith in
-      rw (more, from-append, map-append, next, ← row-bytes 32 q 0 h (omega arith), add-zero)
-
-  rows-bytes : (n q : ℕ) → q + n ≤ 256
-      → map (byteOf (relationWords R)) (from (32 * q) (32 * n)) ≡ relationRows R (from q n)
-  unfolding relationRows from
-  rows-bytes zero q h = refl
-  rows-bytes (suc n) q h = next-row n q (omega arith) ∙ ap (_++_ (rowBytes R q 0 32)) (rows-bytes n (suc q) (omega arith))
-
-  pub bytes-rows : (n : ℕ) → n ≤ 256 → bytesOf (relationWords R) (32 * n) ≡ relationRows R (from 0 n)
-  unfolding bytesOf
-  bytes-rows n h = rows-bytes n 0 (omega arith)
-
-  -- A bit of the rows is a pair.
-  bits-bit : (n q r k : ℕ) → k < n → bit (bitsFrom R q r n) k ≡ related R q (r + k)
-  unfolding bitsFrom
-  bits-bit zero q r k h = absurd (omega arith)
-  bits-bit (suc n) q r zero h = rw add-zero (lowest (related R q r) (bitsFrom R q (suc r) n) .0)
-  bits-bit (suc n) q r (suc k) h =
-      bit-suc _ k
-      ∙ ap (λ (x : ℕ). bit x k) (lowest (related R q r) (bitsFrom R q (suc r) n) .1)
-      ∙ bits-bit n q (suc r) k (omega arith)
-      ∙ ap (related R q) (omega arith)
-
-  pub rows-bit : (n q r : ℕ) → n ≤ 256 → q < n → r < 256
-      → bit (getD (relationRows R (from 0 n)) (32 * q + r / 8) 0) (r % 8) ≡ related R q r
-  unfolding bytesOf
-  rows-bit n q r h l b =
-      rw (
-        ← bytes-rows n h,
-        map-from-at (byteOf (relationWords R)) 0 (32 * n) (32 * q + r / 8) (omega arith),
-        zero-add,
-        byte-is q (r / 8) (omega arith) (omega arith),
-      )
-      (bits-bit 8 q (8 * (r / 8)) (r % 8) (omega arith) ∙ ap (related R q) (omega arith))
-
--- A row's bits that are set.
+-- Bits that are set.
 
 ones-bits : (test : ℕ → Bool) (n r x : ℕ) → x < 2 ^ n → ((k : ℕ) → k < n → bit x k ≡ test (r + k))
     → ones x ≡ length (keep test (from r n))
@@ -216,51 +71,116 @@ ones-bits test (suc n) r x h same =
     go true d later = omega arith
     go false d later = omega arith
 
-pub ones-append : (us vs : List ℕ) → onesOf (us ++ vs) ≡ onesOf us + onesOf vs
-unfolding onesOf
-ones-append [] vs = sym (zero-add (onesOf vs))
-ones-append (u ∷ us) vs = rw (ones-append us vs, add-assoc)
+pub ones-is : (w : ℕ) → w < 2 ^ 64 → ones w ≡ onesIn w
+unfolding onesIn bit
+ones-is w h = ones-bits (bit w) 64 0 w h (λ k l. ap (bit w) (sym (zero-add k)))
+
+pub ones-few : (w : ℕ) → onesIn w ≤ 64
+unfolding onesIn
+ones-few w = kept-few _ 64
 
 length-keep-append : (test : ℕ → Bool) (i a b : ℕ)
     → length (keep test (from i (a + b))) ≡ length (keep test (from i a)) + length (keep test (from (i + a) b))
 length-keep-append test i a b = rw (from-append, keep-append, length-append)
 
-module _ (R : Relation) where
-  ones-word : (q j : ℕ) → j < 4 → ones (getD (rowWords R q) j 0) ≡ length (keep (related R q) (from (64 * j) 64))
-  ones-word q j h =
-      ones-bits (related R q) 64 (64 * j) (getD (rowWords R q) j 0) (row-word-small R q j) (λ k l. row-bit R q j k h l)
+kept-shifted : (f g : ℕ → Bool) (a b n : ℕ) → ((k : ℕ) → k < n → f (a + k) ≡ g (b + k))
+    → length (keep f (from a n)) ≡ length (keep g (from b n))
+unfolding keep from
+kept-shifted f g a b zero same = refl
+kept-shifted f g a b (suc n) same =
+    go (f a) (g b) (simp add-zero at (same 0 (omega arith)))
+    (kept-shifted f g (suc a) (suc b) n (λ k h. ap f (omega arith) ∙ same (suc k) (omega arith) ∙ ap g (omega arith)))
+  where
+    ps : List ℕ
+    ps = keep f (from (suc a) n)
 
-  ones-row : (q : ℕ) → onesOf (rowWords R q) ≡ length (keep (related R q) (from 0 256))
-  unfolding onesOf words
-  ones-row q =
-      ap onesOf (words-getD (rowWords R q) (length-row R q))
-      ∙ omega (
+    qs : List ℕ
+    qs = keep g (from (suc b) n)
+
+    go : (s t : Bool) → s ≡ t → length ps ≡ length qs → length (cond s (a ∷ ps) ps) ≡ length (cond t (b ∷ qs) qs)
+    go true true e later = ap suc later
+    go true false e later = absurd (true≢false e)
+    go false true e later = absurd (false≢true e)
+    go false false e later = later
+
+pairs-append : (f : ℕ → ℕ → Bool) (ps qs rs : List ℕ) → pairsIn f (ps ++ qs) rs ≡ pairsIn f ps rs + pairsIn f qs rs
+unfolding pairsIn
+pairs-append f [] qs rs = sym (zero-add (pairsIn f qs rs))
+pairs-append f (p ∷ ps) qs rs = rw (pairs-append f ps qs rs, add-assoc)
+
+-- A relation in words.
+module _ (words : List ℕ) where
+  abbrev R : Relation
+  R = relationIn words
+
+  pub pair-bit : (q r : ℕ) → q < 256 → r < 256 → eqb (getD words (4 * q + r / 64) 0 / 2 ^ (r % 64) % 2) 1 ≡ related R q r
+  unfolding member
+  pair-bit q r h l = sym (related-in words q r h l ∙ rw (entry-at words q (r / 64) (omega arith)))
+
+  word-bit : (q j s : ℕ) → q < 256 → j < 4 → s < 64 → bit (getD words (4 * q + j) 0) s ≡ related R q (64 * j + s)
+  unfolding bit
+  word-bit q j s h k l =
+      let word : (64 * j + s) / 64 ≡ j = omega arith in
+      let place : (64 * j + s) % 64 ≡ s = omega arith in
+      rw (word, place) at (pair-bit q (64 * j + s) h (omega arith))
+
+  byte-is : (q i : ℕ) → q < 256 → i < 32 → byteOf words (32 * q + i) ≡ bitsFrom R q (8 * i) 8
+  unfolding byteOf
+  byte-is q i h l =
+      let word : (32 * q + i) / 8 ≡ 4 * q + i / 8 = omega arith in
+      let place : (32 * q + i) % 8 ≡ i % 8 = omega arith in
+      rw (word, place)
+      (low-bits R q 8 (8 * i) (getD words (4 * q + i / 8) 0 / 2 ^ (8 * (i % 8)))
+      (λ k b. bit-shifted (getD words (4 * q + i / 8) 0) (8 * (i % 8)) k
+      ∙ word-bit q (i / 8) (8 * (i % 8) + k) h (omega arith) (omega arith) ∙ ap (related R q) (omega arith)))
+
+  row-bytes : (n q i : ℕ) → q < 256 → i + n ≤ 32 → map (byteOf words) (from (32 * q + i) n) ≡ rowBytes R q i n
+  unfolding rowBytes from
+  row-bytes zero q i h l = refl
+  row-bytes (suc n) q i h l =
+      rw (byte-is q i h (omega arith), ← add-suc (32 * q) i, row-bytes n q (suc i) h (omega arith))
+
+  rows-bytes : (n q : ℕ) → q + n ≤ 256 → map (byteOf words) (from (32 * q) (32 * n)) ≡ relationRows R (from q n)
+  unfolding relationRows from
+  rows-bytes zero q h = refl
+  rows-bytes (suc n) q h =
+      let more : 32 * suc n ≡ 32 + 32 * n = omega arith in
+      let next : 32 * q + 32 ≡ 32 * suc q = omega arith in
+      rw (more, from-append, map-append, next, ← row-bytes 32 q 0 (omega arith) (omega arith), add-zero)
+      (ap (_++_ (map (byteOf words) (from (32 * q) 32))) (rows-bytes n (suc q) (omega arith)))
+
+  pub bytes-rows : (n : ℕ) → n ≤ 256 → bytesOf words (32 * n) ≡ relationRows R (from 0 n)
+  unfolding bytesOf
+  bytes-rows n h = rows-bytes n 0 (omega arith)
+
+  ones-word : (q j : ℕ) → q < 256 → j < 4 → onesIn (getD words (4 * q + j) 0) ≡ length (keep (related R q) (from (64 * j) 64))
+  unfolding onesIn bit
+  ones-word q j h l =
+      kept-shifted (bit (getD words (4 * q + j) 0)) (related R q) 0 (64 * j) 64
+      (λ k b. ap (bit (getD words (4 * q + j) 0)) (zero-add k) ∙ word-bit q j k h l b)
+
+  ones-row : (q : ℕ) → q < 256 → onesOf words (4 * suc q) ≡ onesOf words (4 * q) + length (keep (related R q) (from 0 256))
+  unfolding onesOf
+  ones-row q h =
+      let four : 4 * suc q ≡ suc (suc (suc (suc (4 * q)))) = omega arith in
+      rw (four, ← add-three (4 * q), ← add-two (4 * q), ← add-one (4 * q))
+      (omega (
         arith,
-        ones-word q 0 (omega arith),
-        ones-word q 1 (omega arith),
-        ones-word q 2 (omega arith),
-        ones-word q 3 (omega arith),
+        rw add-zero at (ones-word q 0 h (omega arith)),
+        ones-word q 1 h (omega arith),
+        ones-word q 2 h (omega arith),
+        ones-word q 3 h (omega arith),
         length-keep-append (related R q) 0 64 192,
         length-keep-append (related R q) 64 64 128,
         length-keep-append (related R q) 128 64 64,
-      )
+      ))
 
-  ones-rows : (qs : List ℕ) → onesOf (rowsWords R qs) ≡ pairsIn (related R) qs (from 0 256)
-  unfolding rowsWords pairsIn onesOf
-  ones-rows [] = refl
-  ones-rows (q ∷ qs) = rw (ones-append, ones-row q, ones-rows qs)
-
-  rows-append : (ps qs : List ℕ) → rowsWords R (ps ++ qs) ≡ rowsWords R ps ++ rowsWords R qs
-  unfolding rowsWords
-  rows-append [] qs = refl
-  rows-append (p ∷ ps) qs = rw (rows-append ps qs) (sym (append-assoc (rowWords R p) (rowsWords R ps) (rowsWords R qs)))
-
-  rows-taken : (n : ℕ) → n ≤ 256 → take (4 * n) (relationWords R) ≡ rowsWords R (from 0 n)
-  unfolding relationWords
-  rows-taken n h =
-      let all : 256 ≡ n + (256 - n) = omega arith in
-      ap (λ (m : ℕ). take (4 * n) (rowsWords R (from 0 m))) all
-      ∙ rw (from-append, rows-append) (take-at _ _ (4 * n) (length-rows R 0 n))
+  ones-rows : (n : ℕ) → n ≤ 256 → onesOf words (4 * n) ≡ pairsIn (related R) (from 0 n) (from 0 256)
+  unfolding pairsIn onesOf
+  ones-rows zero h = unfold from in refl
+  ones-rows (suc n) h =
+      ones-row n (omega arith)
+      ∙ rw (ones-rows n (omega arith), ← add-one n, from-step, pairs-append, zero-add, add-zero)
 
   narrowed : (qs : List ℕ) (n : ℕ) → n ≤ 256 → ((q r : ℕ) → n ≤ r → related R q r ≡ false)
       → pairsIn (related R) qs (from 0 256) ≡ pairsIn (related R) qs (from 0 n)
@@ -274,8 +194,60 @@ module _ (R : Relation) where
       rw (few, add-zero, narrowed qs n h low)
 
   pub ones-pairs : (n : ℕ) → n ≤ 256 → ((q r : ℕ) → n ≤ r → related R q r ≡ false)
-      → onesOf (take (4 * n) (relationWords R)) ≡ pairsIn (related R) (from 0 n) (from 0 n)
-  ones-pairs n h low = ap onesOf (rows-taken n h) ∙ ones-rows (from 0 n) ∙ narrowed (from 0 n) n h low
+      → onesOf words (4 * n) ≡ pairsIn (related R) (from 0 n) (from 0 n)
+  ones-pairs n h low = ones-rows n h ∙ narrowed (from 0 n) n h low
+
+-- The rows of any relation.
+
+lowest : (t : Bool) (x : ℕ) → (bit (cond t 1 0 + 2 * x) 0 ≡ t) × ((cond t 1 0 + 2 * x) / 2 ≡ x)
+unfolding bit
+lowest true x = (eq-eqb ((1 + 2 * x) / 2 ^ 0 % 2) 1 (omega arith), omega arith)
+lowest false x = (ne-eqb ((0 + 2 * x) / 2 ^ 0 % 2) 1 (omega arith), omega arith)
+
+module _ (R : Relation) where
+  length-row : (n q i : ℕ) → length (rowBytes R q i n) ≡ n
+  unfolding rowBytes
+  length-row zero q i = refl
+  length-row (suc n) q i = ap suc (length-row n q (suc i))
+
+  pub length-rows : (qs : List ℕ) → length (relationRows R qs) ≡ 32 * length qs
+  unfolding relationRows
+  length-rows [] = refl
+  length-rows (q ∷ qs) = rw (length-append, length-row, length-rows qs) (omega arith)
+
+  row-at : (n q i j : ℕ) → j < n → getD (rowBytes R q i n) j 0 ≡ bitsFrom R q (8 * (i + j)) 8
+  unfolding rowBytes
+  row-at zero q i j h = absurd (omega arith)
+  row-at (suc n) q i zero h = rw add-zero
+  row-at (suc n) q i (suc j) h = rw (add-suc, ← suc-add) (row-at n q (suc i) j (omega arith))
+
+  rows-at : (n p q j : ℕ) → q < n → j < 32 → getD (relationRows R (from p n)) (32 * q + j) 0 ≡ bitsFrom R (p + q) (8 * j) 8
+  unfolding relationRows from
+  rows-at zero p q j h l = absurd (omega arith)
+  rows-at (suc n) p zero j h l =
+      rw (zero-add, add-zero)
+      (List·getD-append (rowBytes R p 0 32) (relationRows R (from (suc p) n)) 0 j (omega (arith, length-row 32 p 0))
+      ∙ row-at 32 p 0 j l ∙ ap (λ (i : ℕ). bitsFrom R p (8 * i) 8) (zero-add j))
+  rows-at (suc n) p (suc q) j h l =
+      let place : 32 * suc q + j ≡ length (rowBytes R p 0 32) + (32 * q + j) = omega (arith, length-row 32 p 0) in
+      rw (place, getD-append-add, add-suc, ← suc-add) (rows-at n (suc p) q j (omega arith) l)
+
+  -- A bit of the rows is a pair.
+  bits-bit : (n q r k : ℕ) → k < n → bit (bitsFrom R q r n) k ≡ related R q (r + k)
+  unfolding bitsFrom
+  bits-bit zero q r k h = absurd (omega arith)
+  bits-bit (suc n) q r zero h = rw add-zero (lowest (related R q r) (bitsFrom R q (suc r) n) .0)
+  bits-bit (suc n) q r (suc k) h =
+      bit-suc _ k
+      ∙ ap (λ (x : ℕ). bit x k) (lowest (related R q r) (bitsFrom R q (suc r) n) .1)
+      ∙ bits-bit n q (suc r) k (omega arith)
+      ∙ ap (related R q) (omega arith)
+
+  pub rows-bit : (n q r : ℕ) → q < n → r < 256
+      → bit (getD (relationRows R (from 0 n)) (32 * q + r / 8) 0) (r % 8) ≡ related R q r
+  rows-bit n q r h b =
+      rw (rows-at n 0 q (r / 8) h (omega arith), zero-add)
+      (bits-bit 8 q (8 * (r / 8)) (r % 8) (omega arith) ∙ ap (related R q) (omega arith))
 
 -- A set that grows by the next state.
 
@@ -355,6 +327,8 @@ words-next out ws now i next e f room =
     (omega (arith, length-bytes (getD ws i 0 ∷ []) 8))
     ∙ ap (over out 0) (bytes-word ws i)
 
-pub ones-next : (ws : List ℕ) (i : ℕ) → i < length ws → onesOf (take (i + 1) ws) ≡ onesOf (take i ws) + ones (getD ws i 0)
-unfolding onesOf
-ones-next ws i h = rw (add-one, take-suc ws i 0 h, ones-append, add-zero)
+-- Words that are 0.
+pub zero-words : (n i : ℕ) → getD (replicate {A = ℕ} n 0) i 0 ≡ 0
+zero-words zero i = refl
+zero-words (suc n) zero = refl
+zero-words (suc n) (suc i) = zero-words n i

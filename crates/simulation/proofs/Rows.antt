@@ -1,26 +1,27 @@
--- A relation in 256 rows of words: the pairs that its bits stand for, what a round makes of them, and the rows laid flat.
-use Prim.Native.Nat.{ℕ, zero, suc, _+_, _-_, _*_, _/_, _%_, _^_, _≤_, _<_}
+-- A relation in words: the pairs that its bits stand for, and what a round makes of them.
+use Prim.Native.Nat.{ℕ, zero, suc, _+_, _-_, _/_, _%_, _^_, _≤_, _<_}
 use native.Mathlib.Nat.{eq-or-lt-of-le, zero-add, suc-add}
 use native.Mathlib.Omega.{arith}
 use mathlib.Core.Path.{_≡_, refl, sym, ap, ap₂, _∙_}
 use mathlib.Core.Logic.{_⊎_, inl, inr}
 use mathlib.Core.List.{List, [], _∷_, _++_, map, List·Memᴰ, List·Memᴰ·head, List·Memᴰ·tail}
-use mathlib.Core.Bool.{Bool, true, false, cond, _&&_, _||_, and-false}
-use lib.ListN.{length, getD, set, List·getD-append}
-use lib.Seq.{getD-append-add, getD-set-same, getD-set-other, ext-getD}
+use mathlib.Core.Bool.{Bool, true, false, cond, _&&_, _||_, and-false, true≢false}
+use lib.ListN.{length, getD, set}
+use lib.Seq.{getD-set-same, getD-set-other}
 use lib.Bits.{bitOr, or-lt}
 use lib.Pow.{pow-lt}
 use lib.Dec.{eqb, ltb}
 use borrow.Author.Tests.{eqb-true, eqb-false, ltb-true, ltb-false, lt-ltb, le-ltb}
 use Rattle.automaton.specs.Lists.{from, keep}
 use Rattle.automaton.specs.Automaton.{Rule}
-use Rattle.automaton.specs.StateSet.{member, words, emptySet, replaced, withState, withAll, setOf}
+use Rattle.automaton.specs.StateSet.{member, emptySet, replaced, withState, withAll, setOf, sameSet}
+use Rattle.automaton.specs.StateSet as sets
 use Rattle.automaton.proofs.Keeping.{keep-append}
-use Rattle.automaton.proofs.StateSets.{below-four, getD-words, member-with, member-setOf, length-setOf, same-members}
+use Rattle.automaton.proofs.StateSets.{member-with, same-members, same-set-in}
 use Rattle.simulation.specs.Simulation.{Relation, related, survives, refine, allPairs}
-use Rattle.simulation.specs.Words.{statesIn, rowWords, rowsWords}
-use Rattle.simulation.specs.Inner.{Has, relationIn}
-use Rattle.simulation.proofs.Ranges.{from-member, member-from, keep-none, elem-keep}
+use Rattle.simulation.specs.Words.{statesIn, entryAt, relationIn}
+use Rattle.simulation.specs.Inner.{Has}
+use Rattle.simulation.proofs.Ranges.{from-member, member-from, keep-none}
 use Rattle.simulation.proofs.Refinement.{member-related, pair-member, member-pair, keep-related, refine-related}
 
 -- The elements of a range that pass a test.
@@ -113,46 +114,46 @@ all-below p m =
     let b = member-from 256 0 _ (s .1) in
     (omega arith, omega arith)
 
-pub related-in : (matrix : List (List ℕ)) (q r : ℕ) → q < 256 → r < 256
-    → related (relationIn matrix) q r ≡ member (getD matrix q []) r
+pub related-in : (words : List ℕ) (q r : ℕ) → q < 256 → r < 256
+    → related (relationIn words) q r ≡ member (entryAt words q) r
 unfolding relationIn
-related-in matrix q r a b =
-    keep-related (λ (p : ℕ × ℕ). member (getD matrix (p .0) []) (p .1)) (allPairs (from 0 256) (from 0 256)) q r
+related-in words q r a b =
+    keep-related (λ (p : ℕ × ℕ). member (entryAt words (p .0)) (p .1)) (allPairs (from 0 256) (from 0 256)) q r
     ∙ rw (member-related (pair-member (from-member 256 0 q (omega arith) (omega arith))
     (from-member 256 0 r (omega arith) (omega arith))))
 
-pub relation-is : (matrix : List (List ℕ)) (test : ℕ × ℕ → Bool)
-    → ((q : ℕ) → q < 256 → Has (getD matrix q []) (λ (r : ℕ). test (q, r)))
-    → relationIn matrix ≡ keep test (allPairs (from 0 256) (from 0 256))
+pub relation-is : (words : List ℕ) (test : ℕ × ℕ → Bool)
+    → ((q : ℕ) → q < 256 → Has (entryAt words q) (λ (r : ℕ). test (q, r)))
+    → relationIn words ≡ keep test (allPairs (from 0 256) (from 0 256))
 unfolding relationIn
-relation-is matrix test has =
+relation-is words test has =
     keep-pairs-same _ test (allPairs (from 0 256) (from 0 256))
     (λ p m. let s = all-below p m in has (p .0) (s .0) (p .1) (s .1))
 
-pub relation-start : (matrix : List (List ℕ)) (set : List ℕ)
-    → ((q : ℕ) → q < 256 → Has (getD matrix q []) (λ (r : ℕ). member set q && member set r))
-    → relationIn matrix ≡ allPairs (statesIn 256 set) (statesIn 256 set)
+pub relation-start : (words : List ℕ) (set : List ℕ)
+    → ((q : ℕ) → q < 256 → Has (entryAt words q) (λ (r : ℕ). member set q && member set r))
+    → relationIn words ≡ allPairs (statesIn 256 set) (statesIn 256 set)
 unfolding statesIn
-relation-start matrix set has =
-    relation-is matrix (λ (p : ℕ × ℕ). member set (p .0) && member set (p .1)) has
+relation-start words set has =
+    relation-is words (λ (p : ℕ × ℕ). member set (p .0) && member set (p .1)) has
     ∙ sym (keep-all-pairs (member set) (member set) (from 0 256) (from 0 256))
 
-pub relation-next : (rules : List Rule) (last next : List (List ℕ))
-    → ((q : ℕ) → q < 256 → Has (getD next q []) (related (refine rules (relationIn last)) q))
+pub relation-next : (rules : List Rule) (last next : List ℕ)
+    → ((q : ℕ) → q < 256 → Has (entryAt next q) (related (refine rules (relationIn last)) q))
     → relationIn next ≡ refine rules (relationIn last)
 unfolding refine relationIn
 relation-next rules last next has =
     relation-is next
-    (λ (p : ℕ × ℕ). member (getD last (p .0) []) (p .1) && survives rules (relationIn last) p)
+    (λ (p : ℕ × ℕ). member (entryAt last (p .0)) (p .1) && survives rules (relationIn last) p)
     (λ q h r l. has q h r l ∙ refine-related rules (relationIn last) q r ∙ rw (related-in last q r h l))
-    ∙ sym (keep-pairs-twice (λ (p : ℕ × ℕ). member (getD last (p .0) []) (p .1)) (survives rules (relationIn last))
+    ∙ sym (keep-pairs-twice (λ (p : ℕ × ℕ). member (entryAt last (p .0)) (p .1)) (survives rules (relationIn last))
     (allPairs (from 0 256) (from 0 256)))
 
-pub relation-same : (last next : List (List ℕ)) → ((q : ℕ) → q < 256 → getD next q [] ≡ getD last q [])
+pub relation-same : (last next : List ℕ) → ((q : ℕ) → q < 256 → entryAt next q ≡ entryAt last q)
     → relationIn next ≡ relationIn last
 unfolding relationIn
 relation-same last next same =
-    relation-is next (λ (p : ℕ × ℕ). member (getD last (p .0) []) (p .1))
+    relation-is next (λ (p : ℕ × ℕ). member (entryAt last (p .0)) (p .1))
     (λ q h r l. ap (λ (row : List ℕ). member row r) (same q h))
 
 -- Words.
@@ -160,8 +161,8 @@ relation-same last next same =
 abbrev pub Bounded : List ℕ → Type 0
 Bounded ws = (i : ℕ) → getD ws i 0 < 2 ^ 64
 
-bounded-words : (f : ℕ → ℕ) → ((i : ℕ) → f i < 2 ^ 64) → Bounded (words f)
-unfolding words
+bounded-words : (f : ℕ → ℕ) → ((i : ℕ) → f i < 2 ^ 64) → Bounded (sets.words f)
+unfolding sets.words
 bounded-words f h zero = h 0
 bounded-words f h (suc zero) = h 1
 bounded-words f h (suc (suc zero)) = h 2
@@ -185,74 +186,11 @@ pub bounded-setOf : (qs : List ℕ) → Bounded (setOf qs)
 unfolding setOf emptySet
 bounded-setOf qs = bounded-withAll emptySet qs (bounded-words _ (λ i. omega arith))
 
--- The rows laid flat.
-
-pub row-words : (matrix : List (List ℕ)) (q : ℕ) → q < 256 → length (getD matrix q []) ≡ 4 → Bounded (getD matrix q [])
-    → rowWords (relationIn matrix) q ≡ getD matrix q []
-unfolding rowWords
-row-words matrix q h four small =
-    let R = relationIn matrix in
-    let kept = keep (related R q) (from 0 256) in
-    same-members (setOf kept) (getD matrix q []) (length-setOf kept) four (bounded-setOf kept) small
-    (λ r l. member-setOf kept r l
-    ∙ elem-keep (related R q) 0 256 r (omega arith) (omega arith) ∙ related-in matrix q r h l)
-
-pub row-empty : (matrix : List (List ℕ)) (q i : ℕ) → q < 256 → i < 4 → Has (getD matrix q []) (λ (r : ℕ). false)
-    → getD (rowWords (relationIn matrix) q) i 0 ≡ 0
-unfolding rowWords setOf withAll emptySet
-row-empty matrix q i h l empty =
-    rw (keep-none (related (relationIn matrix) q) 0 256
-    (λ r a b. related-in matrix q r h (omega arith) ∙ empty r (omega arith)))
-    (getD-words (λ (j : ℕ). 0) i l)
-
-pub getD-rows : (R : Relation) (i n j : ℕ) → j < 4 * n
-    → getD (rowsWords R (from i n)) j 0 ≡ getD (rowWords R (i + j / 4)) (j % 4) 0
-unfolding rowsWords rowWords from
-getD-rows R i zero j h = absurd (omega arith)
-getD-rows R i (suc n) j h = go (ltb j 4) refl (getD-rows R (suc i) n)
-  where
-    row : List ℕ
-    row = rowWords R i
-
-    rest : List ℕ
-    rest = rowsWords R (from (suc i) n)
-
-    four : length row ≡ 4
-    four = length-setOf (keep (related R i) (from 0 256))
-
-    go : (t : Bool) → ltb j 4 ≡ t → ((m : ℕ) → m < 4 * n → getD rest m 0 ≡ getD (rowWords R (suc i + m / 4)) (m % 4) 0)
-        → getD (row ++ rest) j 0 ≡ getD (rowWords R (i + j / 4)) (j % 4) 0
-    go true l later =
-        let low = ltb-true j 4 l in
-        let a : i + j / 4 ≡ i = omega arith in
-        let b : j % 4 ≡ j = omega arith in
-        rw (a, b) (List·getD-append row rest 0 j (omega (arith, four)))
-    go false l later =
-        let high = ltb-false j 4 l in
-        let e : j ≡ length row + (j - 4) = omega (arith, four) in
-        let a : suc i + (j - 4) / 4 ≡ i + j / 4 = omega arith in
-        let b : (j - 4) % 4 ≡ j % 4 = omega arith in
-        ap (λ (m : ℕ). getD (row ++ rest) m 0) e ∙ getD-append-add row rest (j - 4) 0
-        ∙ rw (a, b) at (later (j - 4) (omega arith))
-
--- Two sets of four words.
-module _ (ws vs : List ℕ) (lw : length ws ≡ 4) (lv : length vs ≡ 4) where
-  pub words-same : getD ws 0 0 ≡ getD vs 0 0 → getD ws 1 0 ≡ getD vs 1 0 → getD ws 2 0 ≡ getD vs 2 0
-      → getD ws 3 0 ≡ getD vs 3 0 → ws ≡ vs
-  words-same a b c d =
-      ext-getD 0 ws vs (lw ∙ sym lv) (λ i h. below-four (λ (j : ℕ). getD ws j 0 ≡ getD vs j 0) a b c d i (omega arith))
-
-  pub words-differ : Bounded ws → Bounded vs → (i : ℕ) → (getD ws i 0 ≡ getD vs i 0 → ⊥) → Has ws (member vs) → ⊥
-  words-differ bw bv i other same =
-      other (ap (λ (l : List ℕ). getD l i 0) (same-members ws vs lw lv bw bv same))
-
--- What holds below a bound and from it on holds of all.
-pub below-from : (P : ℕ → Type 0) (n : ℕ) → ((i : ℕ) → i < n → P i) → ((i : ℕ) → n ≤ i → P i) → (i : ℕ) → P i
-below-from P n low high i = go (ltb i n) refl
-  where
-    go : (t : Bool) → ltb i n ≡ t → P i
-    go true e = low i (ltb-true i n e)
-    go false e = high i (ltb-false i n e)
+-- Sets that differ have other members, for their words are below 2 ^ 64.
+pub sets-differ : (ws vs : List ℕ) → length ws ≡ 4 → length vs ≡ 4 → Bounded ws → Bounded vs → sameSet ws vs ≡ false
+    → Has ws (member vs) → ⊥
+sets-differ ws vs lw lv bw bv other same =
+    true≢false (sym (same-set-in vs) ∙ ap (λ (l : List ℕ). sameSet l vs) (sym (same-members ws vs lw lv bw bv same)) ∙ other)
 
 -- One element more of a list that is filled from the front, and one fewer of the rest.
 pub filled-more : {A : Type 0} (P : ℕ → A → Type 0) (d : A) (l : List A) (i : ℕ) (x : A) → i < length l
@@ -268,26 +206,35 @@ pub rest-fewer : {A : Type 0} (P : ℕ → A → Type 0) (d : A) (l : List A) (i
 rest-fewer P d l i x rest j b = rw (getD-set-other l i j x d (λ e. omega arith)) (rest j (omega arith))
 
 -- One state more of those below a bound.
-ltb-more : (r q : ℕ) → (r ≡ q → ⊥) → ltb r (q + 1) ≡ ltb r q
+pub ltb-more : (r q : ℕ) → (r ≡ q → ⊥) → ltb r (q + 1) ≡ ltb r q
 ltb-more r q other = go (ltb r q) refl
   where
     go : (t : Bool) → ltb r q ≡ t → ltb r (q + 1) ≡ t
     go true e = lt-ltb r (q + 1) (omega (arith, ltb-true r q e))
     go false e = le-ltb r (q + 1) (omega (arith, ltb-false r q e))
 
-module _ (set states : List ℕ) (q : ℕ) (has : Has set (λ (r : ℕ). ltb r q && member states r)) where
-  pub below-in : q < 256 → member states q ≡ true → Has (withState set q) (λ (r : ℕ). ltb r (q + 1) && member states r)
+module _ (set : List ℕ) (test : ℕ → Bool) (q : ℕ) (has : Has set (λ (r : ℕ). ltb r q && test r)) where
+  pub below-in : q < 256 → test q ≡ true → Has (withState set q) (λ (r : ℕ). ltb r (q + 1) && test r)
   below-in h is r b = member-with set q r b ∙ go (eqb r q) refl
     where
-      go : (t : Bool) → eqb r q ≡ t → (t || member set r) ≡ (ltb r (q + 1) && member states r)
+      go : (t : Bool) → eqb r q ≡ t → (t || member set r) ≡ (ltb r (q + 1) && test r)
       go true e =
           let same = eqb-true r q e in
           rw (lt-ltb r (q + 1) (omega arith), same, is)
       go false e = rw (ltb-more r q (eqb-false r q e)) (has r b)
 
-  pub below-out : member states q ≡ false → Has set (λ (r : ℕ). ltb r (q + 1) && member states r)
+  pub below-out : test q ≡ false → Has set (λ (r : ℕ). ltb r (q + 1) && test r)
   below-out is r b = has r b ∙ go (eqb r q) refl
     where
-      go : (t : Bool) → eqb r q ≡ t → (ltb r q && member states r) ≡ (ltb r (q + 1) && member states r)
+      go : (t : Bool) → eqb r q ≡ t → (ltb r q && test r) ≡ (ltb r (q + 1) && test r)
       go true e = rw (eqb-true r q e, is, and-false, and-false)
       go false e = rw (ltb-more r q (eqb-false r q e))
+
+-- What holds of each state of a set, and of one more.
+pub with-each : (P : ℕ → Type 0) (set : List ℕ) (q : ℕ) → ((r : ℕ) → r < 256 → member set r ≡ true → P r) → P q
+    → (r : ℕ) → r < 256 → member (withState set q) r ≡ true → P r
+with-each P set q each p r h is = go (eqb r q) refl (sym (member-with set q r h) ∙ is)
+  where
+    go : (t : Bool) → eqb r q ≡ t → (t || member set r) ≡ true → P r
+    go true e is = rw (eqb-true r q e) p
+    go false e is = each r h is

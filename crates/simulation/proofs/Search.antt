@@ -1,10 +1,14 @@
 -- What a search through a list says of its elements, and back: by induction on the list or on the membership.
-use mathlib.Core.Path.{_≡_, refl, sym, ap, _∙_}
+use mathlib.Core.Path.{_≡_, refl, sym, ap, ap₂, _∙_}
 use mathlib.Core.Logic.{_⊎_, inl, inr}
-use mathlib.Core.List.{List, [], _∷_, List·Memᴰ, List·Memᴰ·head, List·Memᴰ·tail}
-use mathlib.Core.Bool.{Bool, true, false, _&&_, _||_, true≢false, false≢true}
-use Prim.Native.Nat.{ℕ}
-use Rattle.automaton.specs.Lists.{all}
+use mathlib.Core.List.{List, [], _∷_, _++_, map, List·Memᴰ, List·Memᴰ·head, List·Memᴰ·tail}
+use mathlib.Core.Bool.{Bool, true, false, cond, _&&_, _||_, true≢false, false≢true, and-assoc, or-assoc}
+use Prim.Native.Nat.{ℕ, zero, suc, _+_, _≤_, _<_}
+use native.Mathlib.Numerals.{add-one}
+use native.Mathlib.Omega.{arith}
+use lib.ListN.{length, drop, getD, drop-of-length-le}
+use lib.Seq.{drop-cons}
+use Rattle.automaton.specs.Lists.{all, from, keep}
 use Rattle.simulation.specs.Tree.{any}
 use Rattle.simulation.specs.Simulation.{every}
 
@@ -65,6 +69,23 @@ module _ {A : Type 0} (test : A → Bool) where
       first (inr p) later =
           let f = later p in record { element = f .element; member = List·Memᴰ·tail (f .member); passes = f .passes }
 
+  pub any-none : (xs : List A) → ((x : A) → List·Memᴰ x xs → test x ≡ false) → any test xs ≡ false
+  unfolding any
+  any-none [] h = refl
+  any-none (x ∷ xs) h = or-false-in (h x (List·Memᴰ·head refl)) (any-none xs (λ y m. h y (List·Memᴰ·tail m)))
+
+  pub any-none-out : {xs : List A} → any test xs ≡ false → (x : A) → List·Memᴰ x xs → test x ≡ false
+  any-none-out h x m = go (test x) refl
+    where
+      go : (t : Bool) → test x ≡ t → t ≡ false
+      go true e = sym (any-in m e) ∙ h
+      go false e = refl
+
+  pub any-append : (xs ys : List A) → any test (xs ++ ys) ≡ (any test xs || any test ys)
+  unfolding any
+  any-append [] ys = refl
+  any-append (x ∷ xs) ys = rw (any-append xs ys) (sym (or-assoc (test x) (any test xs) (any test ys)))
+
   pub every-in : (xs : List A) → ((x : A) → List·Memᴰ x xs → test x ≡ true) → every test xs ≡ true
   unfolding every
   every-in [] f = refl
@@ -85,3 +106,60 @@ pub all-out : (test : ℕ → Bool) {xs : List ℕ} → all test xs ≡ true →
 unfolding all
 all-out test h q (List·Memᴰ·head {x = x} {xs = xs} e) = ap test e ∙ and-true-out (test x) (all test xs) h .0
 all-out test h q (List·Memᴰ·tail {x = x} {xs = xs} m) = all-out test (and-true-out (test x) (all test xs) h .1) q m
+
+-- Searches through what a map or a test leaves, and through ranges.
+
+pub any-map : {A B : Type 0} (test : B → Bool) (f : A → B) (xs : List A) → any test (map f xs) ≡ any (λ (x : A). test (f x)) xs
+unfolding any
+any-map test f [] = refl
+any-map test f (x ∷ xs) = ap (λ (t : Bool). test (f x) || t) (any-map test f xs)
+
+pub any-keep : (test kept : ℕ → Bool) (xs : List ℕ) → any test (keep kept xs) ≡ any (λ (x : ℕ). kept x && test x) xs
+unfolding any keep
+any-keep test kept [] = refl
+any-keep test kept (x ∷ xs) = go (kept x) (any-keep test kept xs)
+  where
+    go : (t : Bool) → any test (keep kept xs) ≡ any (λ (x : ℕ). kept x && test x) xs
+        → any test (cond t (x ∷ keep kept xs) (keep kept xs)) ≡ ((t && test x) || any (λ (x : ℕ). kept x && test x) xs)
+    go true e = ap (λ (s : Bool). test x || s) e
+    go false e = e
+
+pub any-same : (f g : ℕ → Bool) (i n : ℕ) → ((j : ℕ) → i ≤ j → j < i + n → f j ≡ g j) → any f (from i n) ≡ any g (from i n)
+unfolding any from
+any-same f g i zero e = refl
+any-same f g i (suc n) e =
+    ap₂ _||_ (e i (omega arith) (omega arith)) (any-same f g (suc i) n (λ j h l. e j (omega arith) (omega arith)))
+
+-- Searches by two tests that agree on the elements, and through two lists.
+
+module _ {A : Type 0} (f g : A → Bool) where
+  pub any-agree : (xs : List A) → ((x : A) → List·Memᴰ x xs → f x ≡ g x) → any f xs ≡ any g xs
+  unfolding any
+  any-agree [] same = refl
+  any-agree (x ∷ xs) same =
+      ap₂ _||_ (same x (List·Memᴰ·head refl)) (any-agree xs (λ y m. same y (List·Memᴰ·tail m)))
+
+  pub every-agree : (xs : List A) → ((x : A) → List·Memᴰ x xs → f x ≡ g x) → every f xs ≡ every g xs
+  unfolding every
+  every-agree [] same = refl
+  every-agree (x ∷ xs) same =
+      ap₂ _&&_ (same x (List·Memᴰ·head refl)) (every-agree xs (λ y m. same y (List·Memᴰ·tail m)))
+
+pub every-append : {A : Type 0} (test : A → Bool) (xs ys : List A) → every test (xs ++ ys) ≡ (every test xs && every test ys)
+unfolding every
+every-append test [] ys = refl
+every-append test (x ∷ xs) ys = rw (every-append test xs ys) (sym (and-assoc (test x) (every test xs) (every test ys)))
+
+-- A search from an index on: it ends at the first element that passes, goes on after one that fails, and has found none at the end.
+module _ (test : ℕ → Bool) (xs : List ℕ) (i : ℕ) where
+  pub any-stop : i < length xs → test (getD xs i 0) ≡ true → any test (drop i xs) ≡ true
+  unfolding any
+  any-stop h e = rw (drop-cons xs i 0 h, e)
+
+  pub any-go-on : i < length xs → test (getD xs i 0) ≡ false → any test (drop i xs) ≡ any test (drop (i + 1) xs)
+  unfolding any
+  any-go-on h e = rw (add-one, drop-cons xs i 0 h, e)
+
+  pub any-end : length xs ≤ i → any test (drop i xs) ≡ false
+  unfolding any
+  any-end h = rw (drop-of-length-le xs h)

@@ -1,22 +1,23 @@
 -- The rounds of a relation: each one before the last loses a pair, and there are as many as `rounds` says.
 use Prim.Native.Nat.{ℕ, zero, suc, _+_, _≤_, _<_}
-use native.Mathlib.Nat.{eq-or-lt-of-le}
+use native.Mathlib.Nat.{eq-or-lt-of-le, mul-le-mul}
 use native.Mathlib.Numerals.{add-one}
 use native.Mathlib.Omega.{arith}
 use mathlib.Core.Path.{_≡_, refl, sym, ap, _∙_}
 use mathlib.Core.Logic.{_⊎_, inl, inr}
-use mathlib.Core.List.{List, []}
+use mathlib.Core.List.{List}
 use mathlib.Core.Bool.{Bool, true, false, not, true≢false}
-use lib.ListN.{length, getD}
+use lib.ListN.{length}
 use lib.Dec.{eqb}
 use borrow.Author.Tests.{eq-eqb, ne-eqb, eqb-true, eqb-false, not-true}
 use Rattle.automaton.specs.Lists.{from}
 use Rattle.automaton.specs.Automaton.{Rule}
 use Rattle.automaton.specs.StateSet.{member}
 use Rattle.automaton.proofs.Keeping.{keep-shorter}
-use Rattle.automaton.proofs.WrittenBytes.{length-from}
+use Rattle.automaton.proofs.Ranges.{length-from}
 use Rattle.simulation.specs.Simulation.{Relation, refine, allPairs, relationAt, rounds, relation}
-use Rattle.simulation.specs.Inner.{relationIn, loses}
+use Rattle.simulation.specs.Words.{statesIn}
+use Rattle.simulation.specs.Inner.{loses}
 use Rattle.simulation.proofs.Refinement.{refine-shorter, refine-all, rounds-fixed, rounds-least}
 use Rattle.simulation.proofs.Maximality.{length-pairs}
 
@@ -91,11 +92,10 @@ refined-all rules states S j f h =
     let e : j ≡ n = omega arith in
     (e, is ∙ ap (relationAt rules states) e)
 
-pub length-relation : (matrix : List (List ℕ)) → length (relationIn matrix) ≤ 65536
-unfolding relationIn
-length-relation matrix =
-    let shorter =
-    keep-shorter (λ (p : ℕ × ℕ). member (getD matrix (p .0) []) (p .1)) (allPairs (from 0 256) (from 0 256)) in
-    let all : length (allPairs (from 0 256) (from 0 256)) ≡ 65536 =
-    length-pairs (from 0 256) (from 0 256) ∙ rw (length-from 0 256) in
-    omega arith
+pub pairs-few : (n : ℕ) (set : List ℕ) → n ≤ 256 → length (allPairs (statesIn n set) (statesIn n set)) ≤ 65536
+unfolding statesIn
+pairs-few n set h =
+    let qs = statesIn n set in
+    let shorter = keep-shorter (member set) (from 0 n) in
+    let few : length qs ≤ 256 = omega (arith, length-from 0 n) in
+    omega (arith, length-pairs qs qs, mul-le-mul few few)

@@ -1,132 +1,121 @@
--- The rules of a symbol, one after the other: the states found so far, and those that the rules from an index on still lead to.
-use Prim.Native.Nat.{ℕ, suc, _+_, _-_, _*_, _≤_, _<_}
-use native.Mathlib.Nat.{add-zero, zero-add}
+-- The children of a rule against sets, one each and in order; and the targets of some rules, one after the other.
+use Prim.Native.Nat.{ℕ, zero, suc, _+_, _*_, _/_, _%_, _^_, _≤_, _<_}
+use native.Mathlib.Numerals.{add-one, one-add}
 use native.Mathlib.Omega.{arith}
 use mathlib.Core.Path.{_≡_, refl, sym, ap, _∙_}
-use mathlib.Core.List.{List, _∷_}
-use mathlib.Core.Bool.{Bool, true, false, _&&_, _||_, or-false}
-use lib.ListN.{length, take, drop, getD, drop-of-length-le}
-use lib.Seq.{drop-cons}
+use mathlib.Core.List.{List, [], _∷_, _++_, List·Memᴰ}
+use mathlib.Core.Bool.{Bool, true, false, cond, _&&_, _||_, and-true, and-false, and-assoc, or-comm, or-false}
+use lib.ListN.{length, take, drop, getD}
+use lib.Seq.{take-suc, take-all, drop-drop, length-take-le}
+use lib.Bits.{bitAnd}
 use lib.Dec.{eqb}
-use Rattle.automaton.specs.StateSet.{member, emptySet, withState}
-use Rattle.automaton.specs.Decoded.{ruleAt}
-use Rattle.automaton.proofs.StateSets.{member-empty, member-with, same-test}
-use Rattle.automaton.proofs.Elements.{all-at}
+use Rattle.automaton.specs.Lists.{All, also, from}
+use Rattle.automaton.specs.StateSet.{member, words, emptySet, withState, sameSet}
+use Rattle.automaton.specs.Row.{ruleAt, Row}
+use Rattle.automaton.proofs.Fields.{Bytes}
+use Rattle.automaton.proofs.Rowing.{rule-low}
+use Rattle.automaton.proofs.StateSets.{member-empty, member-with, same-test, same-set-out}
 use Rattle.simulation.specs.Tree.{any}
-use Rattle.simulation.specs.Inner.{RowRanged, keyed, Group, Groups, Indexed, inOrder, leadsTo}
-use Rattle.simulation.proofs.Ranged as numbers
-use Rattle.simulation.proofs.Walks.{Keyed, keyed-rules}
+use Rattle.simulation.specs.Words.{entryAt}
+use Rattle.simulation.specs.Inner.{Has, inOrder, leadsTo}
+use Rattle.simulation.proofs.Search.{any-out, any-none, any-append, and-false-right}
+use Rattle.simulation.proofs.Ranges.{member-from}
+use Rattle.simulation.proofs.Entering.{entry-length, entry-at}
 
-none-more : (a b c : Bool) → ((a && false || b) || c) ≡ (b || c)
-none-more true b c = refl
-none-more false b c = refl
+-- Tests as numbers.
 
-one-more : (a b c : Bool) → ((a && true || b) || c) ≡ (b || (a || c))
-one-more true true c = refl
-one-more true false c = refl
-one-more false b c = refl
+pub both-bits : (s t : Bool) → bitAnd (cond s 1 0) (cond t 1 0) ≡ cond (s && t) 1 0
+both-bits true true = refl
+both-bits true false = refl
+both-bits false true = refl
+both-bits false false = refl
 
-module _ (k m : ℕ) (ranks rows first order : List ℕ) (symbol : ℕ) (stack : List ℕ) (e : ℕ) where
-  abbrev rules : List ℕ
-  rules = keyed rows 0 symbol 0 k
+pub bit-most : (t : Bool) → cond t 1 0 ≤ 1
+bit-most true = omega arith
+bit-most false = omega arith
 
-  pub record Passing (ws : List ℕ) (j : ℕ) : Type 0 where
-    pub low : getD first symbol 0 ≤ j
-    pub members : (q : ℕ) → q < 256
-        → any (leadsTo ranks rows stack e q) rules
-        ≡ (any (leadsTo ranks rows stack e q) (drop (j - getD first symbol 0) rules) || member ws q)
+bit-test : (t : Bool) → eqb (cond t 1 0) 1 ≡ t
+bit-test true = refl
+bit-test false = refl
 
-  pub passing-none : Passing emptySet (getD first symbol 0)
-  passing-none =
-      let z : getD first symbol 0 - getD first symbol 0 ≡ 0 = omega arith in
-      record { low = omega arith; members = λ q l. rw (z, member-empty q l) (sym (or-false _)) }
+pub bit-of : (sets : List ℕ) (e q : ℕ) → q < 256 → getD sets (4 * e + q / 64) 0 / 2 ^ (q % 64) % 2 ≡ cond (member (entryAt sets e) q) 1 0
+unfolding member
+bit-of sets e q h = rw (entry-at sets e (q / 64) (omega arith)) (go (getD sets (4 * e + q / 64) 0 / 2 ^ (q % 64) % 2) (omega arith))
+  where
+    go : (x : ℕ) → x < 2 → x ≡ cond (eqb x 1) 1 0
+    go zero l = refl
+    go (suc zero) l = refl
+    go (suc (suc x)) l = absurd (omega arith)
 
-  module _ (x : Indexed k m ranks rows first order) (known : symbol < m) where
-    pub end-low : getD first (symbol + 1) 0 ≤ k
-    unfolding Groups
-    end-low = x .groups symbol known .0
+-- Children in order.
 
-    group : Group rows k first order symbol
-    unfolding Groups
-    group = x .groups symbol known .1
+pub entry-behind : (sets : List ℕ) (e n : ℕ) → entryAt (drop (4 * e) sets) n ≡ entryAt sets (e + n)
+unfolding entryAt
+entry-behind sets e n = let place : 4 * e + 4 * n ≡ 4 * (e + n) = omega arith in rw (drop-drop, place)
 
-    module _ {ws : List ℕ} {j : ℕ} (p : Passing ws j) where
-      pub passing-all : getD first (symbol + 1) 0 ≤ j → (q : ℕ) → q < 256
-          → member ws q ≡ any (leadsTo ranks rows stack e q) rules
-      unfolding any
-      passing-all h q l =
-          sym (p .members q l ∙ rw (drop-of-length-le rules {i = j - getD first symbol 0} (omega (arith, group .end))))
+pub in-order-append : (sets ps : List ℕ) (q : ℕ)
+    → inOrder sets (ps ++ (q ∷ [])) ≡ (inOrder sets ps && member (entryAt sets (length ps)) q)
+unfolding inOrder
+in-order-append sets [] q = and-true (member (entryAt sets 0) q)
+in-order-append sets (p ∷ ps) q =
+    rw (in-order-append (drop 4 sets) ps q, entry-behind sets 1 (length ps), one-add)
+    (sym (and-assoc (member (entryAt sets 0) p) (inOrder (drop 4 sets) ps) _))
 
-      -- A turn.
-      module _ (more : j < getD first (symbol + 1) 0) where
-        inside : j - getD first symbol 0 < length rules
-        inside = omega (arith, group .end, p .low)
+pub in-order-next : (sets children : List ℕ) (j : ℕ) → j < length children
+    → inOrder sets (take (j + 1) children) ≡ (inOrder sets (take j children) && member (entryAt sets j) (getD children j 0))
+in-order-next sets children j h =
+    rw (add-one, take-suc children j 0 h, in-order-append sets (take j children), length-take-le j children (omega arith))
 
-        number : getD rules (j - getD first symbol 0) 0 ≡ getD order j 0
-        number =
-            let e : getD first symbol 0 + (j - getD first symbol 0) ≡ j = omega (arith, p .low) in
-            sym (rw e at (group .placed (j - getD first symbol 0) inside))
+pub in-order-two : (sets children : List ℕ) → length children ≡ 2
+    → inOrder sets children ≡ (member (entryAt sets 0) (getD children 0 0) && member (entryAt sets 1) (getD children 1 0))
+unfolding inOrder
+in-order-two sets children two =
+    ap (inOrder sets) (sym (take-all 2 children (omega arith)))
+    ∙ in-order-next sets children 1 (omega arith) ∙ rw (in-order-next sets children 0 (omega arith))
 
-        rule : Keyed rows k 0 symbol (getD order j 0)
-        rule = rw (number, zero-add) at (all-at (keyed-rules rows 0 symbol 0 k) (j - getD first symbol 0) inside)
+in-order-none : (sets children : List ℕ) (e : ℕ) → All (λ (q : ℕ). q < 256) children → e < length children
+    → entryAt sets e ≡ emptySet → inOrder sets children ≡ false
+unfolding inOrder
+in-order-none sets [] e lows h is = absurd (omega arith)
+in-order-none sets (q ∷ qs) zero (also low lows) h is = rw (is, member-empty q low)
+in-order-none sets (q ∷ qs) (suc e) (also low lows) h is =
+    and-false-right (member (entryAt sets 0) q)
+    (in-order-none (drop 4 sets) qs e lows (omega arith) (entry-behind sets 1 e ∙ rw one-add is))
 
-        pub number-low : getD order j 0 < k
-        number-low = rule .0
+-- Rules.
+module _ (rows numbers sets : List ℕ) where
+  abbrev leads : ℕ → ℕ → Bool
+  leads q n = any (leadsTo rows sets q) (take n numbers)
 
-        has-symbol : getD rows (10 * getD order j 0) 0 ≡ symbol
-        has-symbol = rw add-zero at (rule .1)
+  -- None leads anywhere where one of the sets is empty.
+  pub no-targets : (rank : ℕ) → 4 * rank ≤ length sets → Bytes rows
+      → ((i : ℕ) → List·Memᴰ i numbers → Row rows i × (rank ≡ length (ruleAt rows i .children)))
+      → any (λ (e : ℕ). sameSet (entryAt sets e) emptySet) (from 0 rank) ≡ true
+      → Has emptySet (λ (q : ℕ). any (leadsTo rows sets q) numbers)
+  unfolding leadsTo emptySet words
+  no-targets rank room bytes ranked h q low =
+      let f = any-out _ (from 0 rank) h in
+      let inside = member-from rank 0 (f .element) (f .member) in
+      let is = same-set-out (entryAt sets (f .element)) emptySet (entry-length sets (f .element) (omega arith)) refl (f .passes) in
+      member-empty q low
+      ∙ sym (any-none _ numbers
+      (λ i m. and-false-right (eqb (ruleAt rows i .target) q)
+      (in-order-none sets (ruleAt rows i .children) (f .element) (rule-low rows i bytes .2) (omega (arith, ranked i m .1)) is)))
 
-        row : RowRanged ranks rows (getD order j 0)
-        row = x .ranged (getD order j 0) (rule .0)
+  pub targets-next : (set : List ℕ) (j : ℕ) → j < length numbers → Has set (λ (q : ℕ). any (leadsTo rows sets q) (take j numbers))
+      → (bit : ℕ) → bit ≡ cond (inOrder sets (ruleAt rows (getD numbers j 0) .children)) 1 0
+      → Has (cond (eqb bit 1) (withState set (ruleAt rows (getD numbers j 0) .target)) set)
+      (λ (q : ℕ). any (leadsTo rows sets q) (take (j + 1) numbers))
+  unfolding any leadsTo
+  targets-next set j h has bit is q low =
+      rw (is, bit-test, add-one, take-suc numbers j 0 h, any-append, or-false)
+      (go (inOrder sets (ruleAt rows (getD numbers j 0) .children)))
+    where
+      target : ℕ
+      target = ruleAt rows (getD numbers j 0) .target
 
-        pub rank-small : getD ranks symbol 0 ≤ 8
-        rank-small = rw has-symbol at (row .rank)
-
-        pub target-low : getD rows (10 * getD order j 0 + 1) 0 < 256
-        target-low = numbers.target-low ranks rows (getD order j 0) row
-
-        pub child-low : (n : ℕ) → n < getD ranks symbol 0 → getD rows (10 * getD order j 0 + 2 + n) 0 < 256
-        child-low = numbers.child-low ranks rows (getD order j 0) row symbol (rule .1)
-
-        abbrev children : List ℕ
-        children = take (getD ranks symbol 0) (drop (10 * getD order j 0 + 2) rows)
-
-        abbrev targets : ℕ → Bool
-        targets q = eqb (getD rows (10 * getD order j 0 + 1) 0) q
-
-        leads : (q : ℕ) (t : Bool) → inOrder stack e children ≡ t
-            → leadsTo ranks rows stack e q (getD order j 0) ≡ (targets q && t)
-        unfolding leadsTo ruleAt
-        leads q t is = rw (has-symbol, is)
-
-        abbrev later : ℕ → Bool
-        later q = any (leadsTo ranks rows stack e q) (drop (j + 1 - getD first symbol 0) rules)
-
-        rest : drop (j - getD first symbol 0) rules ≡ getD order j 0 ∷ drop (j + 1 - getD first symbol 0) rules
-        rest =
-            let n : suc (j - getD first symbol 0) ≡ j + 1 - getD first symbol 0 = omega (arith, p .low) in
-            rw (← number, ← n) (drop-cons rules (j - getD first symbol 0) 0 inside)
-
-        next-members : (q : ℕ) → q < 256 → (t : Bool) → inOrder stack e children ≡ t
-            → any (leadsTo ranks rows stack e q) rules ≡ ((targets q && t || later q) || member ws q)
-        unfolding any
-        next-members q low t is = p .members q low ∙ rw (rest, leads q t is)
-
-        with-target : (q : ℕ) → q < 256 → member (withState ws (getD rows (10 * getD order j 0 + 1) 0)) q
-            ≡ (targets q || member ws q)
-        with-target q low =
-            member-with ws _ q low ∙ ap (λ (t : Bool). t || member ws q) (same-test q _ _ q (λ h. sym h) (λ h. sym h))
-
-        pub passing-out : inOrder stack e children ≡ false → Passing ws (j + 1)
-        passing-out is = record {
-          low = omega (arith, p .low);
-          members = λ q low. next-members q low false is ∙ none-more (targets q) (later q) (member ws q);
-        }
-
-        pub passing-in : inOrder stack e children ≡ true → Passing (withState ws (getD rows (10 * getD order j 0 + 1) 0)) (j + 1)
-        passing-in is = record {
-          low = omega (arith, p .low);
-          members = λ q low.
-              next-members q low true is ∙ one-more (targets q) (later q) (member ws q)
-              ∙ ap (λ (t : Bool). later q || t) (sym (with-target q low));
-        }
+      go : (t : Bool) → member (cond t (withState set target) set) q ≡ (leads q j || (eqb target q && t))
+      go true =
+          member-with set target q low
+          ∙ rw (and-true, has q low, same-test q target target q (λ e. sym e) (λ e. sym e)) (or-comm (eqb target q) (leads q j))
+      go false = rw (and-false, or-false) (has q low)

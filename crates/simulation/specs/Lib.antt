@@ -5,4 +5,5 @@ pub mod Check
 pub mod Simulation
 pub mod Query
 pub mod Words
+pub mod Index
 pub mod Inner

@@ -1,6 +1,10 @@
 // Checking a tree against a table, and the counts of the answers.
 ghost use mathlib.Core.Path.{_≡_};
+ghost use Prim.Native.Nat.{_≤_};
+ghost use lib.ListN.{length};
+ghost use Rattle.automaton.specs.Inner.{RowsRoom};
 ghost use Rattle.simulation.specs.Check as spec;
+ghost use Rattle.simulation.specs.Inner.{IndexRoom};
 use crate::evaluation::accept;
 use automaton::Judged;
 use automaton::Refusal;
@@ -78,17 +82,38 @@ pub fn check(counts: Counts, table: &[u8], tree: &[u8]) -> Checked
     }
 }
 
-// Whether a table accepts a tree, or the first cause of refusal.
+// Whether a table accepts a tree, or the first cause of refusal. A rule takes ten bytes at least, so a short table gets short arrays, which
+// are cleared sooner.
 fn answer_for(table: &[u8], tree: &[u8]) -> Answer
     ensures { λ r. ⌜ spec.acceptanceOf r ≡ spec.acceptance (now (table .entry)) (now (tree .entry)) ⌝ }
 {
     let mut ranks: [u8; 256] = [0; 256];
-    let mut rows: [u16; 10240] = [0; 10240];
-    let decoded = decode(table, &mut ranks, &mut rows);
+    if table.len() <= 1280 {
+        let mut rows: [u8; 1408] = [0; 1408];
+        let mut index: [u16; 385] = [0; 385];
+        return answer_in(table, tree, &mut ranks, &mut rows, &mut index);
+    }
+    let mut rows: [u8; 11264] = [0; 11264];
+    let mut index: [u16; 1281] = [0; 1281];
+    answer_in(table, tree, &mut ranks, &mut rows, &mut index)
+}
+
+// The same, with arrays to work in.
+fn answer_in(
+    table: &[u8],
+    tree: &[u8],
+    ranks: &mut [u8],
+    rows: &mut [u8],
+    index: &mut [u16],
+) -> Answer
+    requires { ⌜ (256 ≤ length (now ranks)) × (RowsRoom (now table) (now rows) × IndexRoom (now table) (now index)) ⌝ }
+    ensures { λ r. ⌜ spec.acceptanceOf r ≡ spec.acceptance (now (table .entry)) (now (tree .entry)) ⌝ }
+{
+    let decoded = decode(table, ranks, rows);
     let finals = decoded.finals;
     let judged = decoded.judged;
     match judged {
         Judged::Refused(cause) => Answer::Refused(cause),
-        Judged::Table(size) => accept(size, finals, &ranks, &rows, tree),
+        Judged::Table(size) => accept(size, finals, ranks, rows, index, tree),
     }
 }

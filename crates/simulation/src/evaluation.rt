@@ -1,30 +1,37 @@
-// A tree, in postfix order, against a decoded table. The stack holds, for each finished tree, the set of the states that it
-// belongs to: entry e is words 4 e to 4 e + 3, in the layout of a state set.
+// A tree, in postfix order, against a decoded table. The stack holds, for each finished tree, the set of the states that it belongs to.
 ghost use Prim.Native.Nat.{ℕ, _+_, _*_, _/_, _≤_, _<_};
 ghost use mathlib.Core.Path.{_≡_};
-ghost use mathlib.Core.List.{List, []};
-ghost use lib.ListN.{length, take, drop, getD};
+ghost use mathlib.Core.Bool.{cond};
+ghost use mathlib.Core.List.{List, [], List·Memᴰ};
+ghost use lib.ListN.{length, drop};
+ghost use lib.Dec.{eqb};
 ghost use Rattle.automaton.specs.Bytes as bytes;
 ghost use Rattle.automaton.specs.Lists.{from, keep};
 ghost use Rattle.automaton.specs.Record.{opened};
-ghost use Rattle.automaton.specs.StateSet.{member};
+ghost use Rattle.automaton.specs.StateSet.{member, emptySet, sameSet, withState};
 ghost use Rattle.automaton.specs.Automaton.{Rule, WellFormed};
+ghost use Rattle.automaton.specs.Row.{ruleAt, rulesIn, Row, Rows};
 ghost use Rattle.automaton.specs.Decoded.{automatonIn};
-ghost use Rattle.automaton.specs.Inner.{over};
 ghost use Rattle.simulation.specs.Tree.{Tree, any};
-ghost use Rattle.simulation.specs.Words.{rulesIn};
+ghost use Rattle.simulation.specs.Words.{entryAt};
 ghost use Rattle.simulation.specs.Postfix.{isTreeRecord, push, pushAll};
 ghost use Rattle.simulation.specs.Check.{acceptanceOf};
-ghost use Rattle.simulation.specs.Inner.{keyed, Indexed, StackRoom, inOrder, leadsTo, Represents, Stacked};
+ghost use Rattle.simulation.specs.Inner.{Has, Evaluable, StackRoom, inOrder, leadsTo, gathered, Represents, Stacked};
 ghost use Rattle.simulation.specs.Inner.{stackAcceptance, nodesAcceptance, treeAcceptance};
 use crate::checking::Answer;
-use crate::index::group_rules;
+use crate::entries::entry;
+use crate::entries::put_entry;
+use crate::index::Key;
+use crate::index::index_rules;
+use crate::index::rules_of;
 use automaton::Opened;
 use automaton::Refusal;
 use automaton::Size;
 use automaton::StateSet;
 use automaton::body;
+use automaton::children_of_rank;
 use automaton::open;
+use automaton::target_of;
 
 // The height of the stack, or the refusal.
 pub enum Height {
@@ -32,92 +39,99 @@ pub enum Height {
     Refused(Refusal),
 }
 
-// Whether state q is in entry e of the stack.
-fn in_entry(stack: &[u64], e: usize, q: usize) -> bool
-    requires { ⌜ (4 * e + 4 ≤ length (now stack)) × (q < 256) ⌝ }
-    ensures { λ r. ⌜ r ≡ member (drop (4 * e) (now (stack .entry))) q ⌝ }
+// 1 if state q is in set e, and 0 if not: a number, so that no branch hangs on it.
+fn bit_at(sets: &[u64], e: usize, q: u8) -> u64
+    requires { ⌜ 4 * e + 4 ≤ length (now sets) ⌝ }
+    ensures { λ r. ⌜ r ≡ cond (member (entryAt (now (sets .entry)) e) q) 1 0 ⌝ }
 {
-    (stack[4 * e + q / 64] >> (q % 64)) % 2 == 1
+    let i = q as usize;
+    (sets[4 * e + i / 64] >> (i % 64)) % 2
 }
 
-// Puts a set at entry e of the stack.
-fn put_entry(stack: &mut [u64], e: usize, set: StateSet)
-    requires { ⌜ 4 * e + 4 ≤ length (now stack) ⌝ }
-    ensures { λ _. ⌜ now (stack .exit) ≡ over (now (stack .entry)) (4 * e) (set .words) ⌝ }
+// 1 if the children are in the sets, one each and in order, and 0 if not. Two children, the most frequent case, go without a loop.
+fn fits(sets: &[u64], children: &[u8]) -> u64
+    requires { ⌜ 4 * length (now children) ≤ length (now sets) ⌝ }
+    ensures { λ r. ⌜ r ≡ cond (inOrder (now (sets .entry)) (now (children .entry))) 1 0 ⌝ }
 {
-    let words = set.words;
-    stack[4 * e] = words[0];
-    stack[4 * e + 1] = words[1];
-    stack[4 * e + 2] = words[2];
-    stack[4 * e + 3] = words[3];
-}
-
-// Whether the `count` states of a row, from `at` on, are in the stack's entries from e on, one each and in order.
-fn in_order(stack: &[u64], e: usize, rows: &[u16], at: usize, count: usize) -> bool
-    requires { ⌜ (4 * (e + count) ≤ length (now stack)) × (at + count ≤ length (now rows)) ⌝ }
-    requires { ⌜ ((j : ℕ) → j < count → getD (now rows) (at + j) 0 < 256) ⌝ }
-    ensures { λ r. ⌜ r ≡ inOrder (now (stack .entry)) e (take count (drop at (now (rows .entry)))) ⌝ }
-{
+    if children.len() == 2 {
+        return bit_at(sets, 0, children[0]) & bit_at(sets, 1, children[1]);
+    }
+    let mut bit: u64 = 1;
     let mut j: usize = 0;
-    while j < count {
-        if !in_entry(stack, e + j, rows[at + j] as usize) {
-            return false;
-        }
+    while j < children.len() {
+        bit = bit & bit_at(sets, j, children[j]);
         j += 1;
     }
-    true
+    bit
 }
 
-// The targets of the symbol's rules whose children are, in order, in the stack's entries from e on.
-fn targets(
-    k: usize,
-    m: usize,
-    ranks: &[u8],
-    rows: &[u16],
-    first: &[u16],
-    order: &[u16],
-    symbol: usize,
-    stack: &[u64],
-    e: usize,
-) -> StateSet
-    requires { ⌜ Indexed k m (now ranks) (now rows) (now first) (now order) ⌝ }
-    requires { ⌜ (symbol < m) × (4 * (e + getD (now ranks) symbol 0) ≤ length (now stack)) ⌝ }
-    ensures { λ r. ⌜ ((q : ℕ) → q < 256 → member (r .words) q
-        ≡ any (leadsTo (now (ranks .entry)) (now (rows .entry)) (now (stack .entry)) e q) (keyed (now (rows .entry)) 0 symbol 0 k)) ⌝ }
+// Whether one of the first `count` sets is empty.
+fn has_empty(sets: &[u64], count: usize) -> bool
+    requires { ⌜ 4 * count ≤ length (now sets) ⌝ }
+    ensures { λ r. ⌜ r ≡ any (λ (e : ℕ). sameSet (entryAt (now (sets .entry)) e) emptySet) (from 0 count) ⌝ }
 {
-    let rank = ranks[symbol] as usize;
-    let mut set = StateSet::empty();
-    let end = first[symbol + 1] as usize;
-    let mut j = first[symbol] as usize;
-    while j < end {
-        let i = order[j] as usize;
-        if in_order(stack, e, rows, 10 * i + 2, rank) {
-            set = set.with(rows[10 * i + 1] as usize);
+    let mut e: usize = 0;
+    while e < count {
+        if entry(sets, e).same(StateSet::empty()) {
+            return true;
         }
+        e += 1;
+    }
+    false
+}
+
+// Adds state q to a set if `bit` is 1, and leaves the set if it is 0. The words of the set stand two places apart: so they are read back one by
+// one, and not in pairs for which the processor would wait.
+fn add_if(spread: &mut [u64], q: u8, bit: u64)
+    requires { ⌜ (length (now spread) ≡ 8) × (bit ≤ 1) ⌝ }
+    ensures { λ _. ⌜ gathered (now (spread .exit))
+        ≡ cond (eqb bit 1) (withState (gathered (now (spread .entry))) q) (gathered (now (spread .entry))) ⌝ }
+{
+    let w = 2 * (q / 64) as usize;
+    spread[w] = spread[w] | bit << (q % 64);
+}
+
+// The targets of those rules, by their numbers and each with `rank` children, whose children are in the sets, one each and in order. Where one
+// of that many sets is empty, no rule is looked at.
+fn targets(rows: &[u8], numbers: &[u16], sets: &[u64], rank: usize) -> StateSet
+    requires { ⌜ 4 * rank ≤ length (now sets) ⌝ }
+    requires { ⌜ ((i : ℕ) → List·Memᴰ i (now numbers) → Row (now rows) i × (rank ≡ length (ruleAt (now rows) i .children))) ⌝ }
+    ensures { λ r. ⌜ Has (r .words)
+        (λ (q : ℕ). any (leadsTo (now (rows .entry)) (now (sets .entry)) q) (now (numbers .entry))) ⌝ }
+{
+    if has_empty(sets, rank) {
+        return StateSet::empty();
+    }
+    let mut spread: [u64; 8] = [0; 8];
+    let mut j: usize = 0;
+    while j < numbers.len() {
+        let i = numbers[j] as usize;
+        let bit = fits(sets, children_of_rank(rows, i, rank));
+        add_if(&mut spread, target_of(rows, i), bit);
         j += 1;
     }
-    set
+    StateSet {
+        words: [spread[0], spread[2], spread[4], spread[6]],
+    }
 }
 
 // One node: its children's sets on the stack make way for its own.
 fn step(
-    size: Size,
     ranks: &[u8],
-    rows: &[u16],
-    first: &[u16],
-    order: &[u16],
+    rows: &[u8],
+    index: &[u16],
     symbol: usize,
     stack: &mut [u64],
     height: usize,
 ) -> Height
-    requires { ⌜ Indexed (size .rules) (size .symbols) (now ranks) (now rows) (now first) (now order) ⌝ }
+    requires { ⌜ ((k : ℕ) × Evaluable k (now ranks) (now rows) (now index)) ⌝ }
     requires { ⌜ (height ≤ 1024) × StackRoom (height + 1) (now stack) ⌝ }
-    ensures { λ r. ⌜ ((trees : List Tree) → length trees ≡ height
-        → Represents (rulesIn (now (ranks .entry)) (now (rows .entry)) (size .rules)) (now (stack .entry)) trees
-        → Stacked (rulesIn (now (ranks .entry)) (now (rows .entry)) (size .rules))
-        (push (take (size .symbols) (now (ranks .entry))) trees symbol) (now (stack .exit)) r) ⌝ }
+    ensures { λ r. ⌜ ((k : ℕ) → Evaluable k (now (ranks .entry)) (now (rows .entry)) (now (index .entry))
+        → (trees : List Tree) → length trees ≡ height
+        → Represents (rulesIn (now (rows .entry)) k) (now (stack .entry)) trees
+        → Stacked (rulesIn (now (rows .entry)) k) (push (now (ranks .entry)) trees symbol) (now (stack .exit)) r) ⌝ }
 {
-    if symbol >= size.symbols {
+    if symbol >= ranks.len() {
         return Height::Refused(Refusal::UnknownSymbol);
     }
     let rank = ranks[symbol] as usize;
@@ -128,17 +142,7 @@ fn step(
     if e >= 1024 {
         return Height::Refused(Refusal::TreeAboveLimit);
     }
-    let set = targets(
-        size.rules,
-        size.symbols,
-        ranks,
-        rows,
-        first,
-        order,
-        symbol,
-        stack,
-        e,
-    );
+    let set = targets(rows, rules_of(index, symbol), &stack[4 * e..], rank);
     put_entry(stack, e, set);
     Height::At(e + 1)
 }
@@ -152,25 +156,18 @@ fn symbol_at(b: &[u8], at: usize) -> usize
 }
 
 // All nodes of a tree's body, one after the other, on an empty stack.
-fn evaluate(
-    size: Size,
-    ranks: &[u8],
-    rows: &[u16],
-    first: &[u16],
-    order: &[u16],
-    b: &[u8],
-    stack: &mut [u64],
-) -> Height
-    requires { ⌜ Indexed (size .rules) (size .symbols) (now ranks) (now rows) (now first) (now order) ⌝ }
+fn evaluate(ranks: &[u8], rows: &[u8], index: &[u16], b: &[u8], stack: &mut [u64]) -> Height
+    requires { ⌜ ((k : ℕ) × Evaluable k (now ranks) (now rows) (now index)) ⌝ }
     requires { ⌜ StackRoom (length (now b) / 2) (now stack) ⌝ }
-    ensures { λ r. ⌜ Stacked (rulesIn (now (ranks .entry)) (now (rows .entry)) (size .rules))
-        (pushAll (take (size .symbols) (now (ranks .entry))) [] (bytes.numbers (now (b .entry)))) (now (stack .exit)) r ⌝ }
+    ensures { λ r. ⌜ ((k : ℕ) → Evaluable k (now (ranks .entry)) (now (rows .entry)) (now (index .entry))
+        → Stacked (rulesIn (now (rows .entry)) k)
+        (pushAll (now (ranks .entry)) [] (bytes.numbers (now (b .entry)))) (now (stack .exit)) r) ⌝ }
 {
     let mut height: usize = 0;
     let mut i: usize = 0;
     while i + 1 < b.len() {
         let symbol = symbol_at(b, i);
-        match step(size, ranks, rows, first, order, symbol, stack, height) {
+        match step(ranks, rows, index, symbol, stack, height) {
             Height::Refused(cause) => return Height::Refused(cause),
             Height::At(h) => {
                 height = h;
@@ -181,33 +178,24 @@ fn evaluate(
     Height::At(height)
 }
 
-// Whether a final state below n is in the stack's lowest entry.
-fn has_final(finals: StateSet, n: usize, stack: &[u64]) -> bool
-    requires { ⌜ (n ≤ 256) × (4 ≤ length (now stack)) ⌝ }
-    ensures { λ r. ⌜ r ≡ any (member (now (stack .entry))) (keep (member (finals .words)) (from 0 n)) ⌝ }
+// Whether one of the final states is in the stack's lowest entry.
+fn has_final(finals: StateSet, stack: &[u64]) -> bool
+    requires { ⌜ 4 ≤ length (now stack) ⌝ }
+    ensures { λ r. ⌜ r ≡ any (member (entryAt (now (stack .entry)) 0)) (keep (member (finals .words)) (from 0 256)) ⌝ }
 {
-    let mut q: usize = 0;
-    while q < n {
-        if finals.has(q) {
-            if in_entry(stack, 0, q) {
-                return true;
-            }
-        }
-        q += 1;
-    }
-    false
+    !entry(stack, 0).meet(finals).same(StateSet::empty())
 }
 
 // The answer for the one tree on a stack of the given height.
-fn answer_on(height: usize, finals: StateSet, n: usize, stack: &[u64]) -> Answer
-    requires { ⌜ (n ≤ 256) × (4 ≤ length (now stack)) ⌝ }
+fn answer_on(height: usize, finals: StateSet, stack: &[u64]) -> Answer
+    requires { ⌜ 4 ≤ length (now stack) ⌝ }
     ensures { λ r. ⌜ ((rules : List Rule) (trees : List Tree) → length trees ≡ height → Represents rules (now (stack .entry)) trees
-        → acceptanceOf r ≡ stackAcceptance rules (keep (member (finals .words)) (from 0 n)) trees) ⌝ }
+        → acceptanceOf r ≡ stackAcceptance rules (keep (member (finals .words)) (from 0 256)) trees) ⌝ }
 {
     if height != 1 {
         return Answer::Refused(Refusal::Unbalanced);
     }
-    if !has_final(finals, n, stack) {
+    if !has_final(finals, stack) {
         return Answer::Rejected;
     }
     Answer::Accepted
@@ -215,46 +203,38 @@ fn answer_on(height: usize, finals: StateSet, n: usize, stack: &[u64]) -> Answer
 
 // The answer for a tree's body, on a stack with room for its nodes.
 fn accept_on(
-    size: Size,
     finals: StateSet,
-    ranks: &[u8; 256],
-    rows: &[u16; 10240],
+    ranks: &[u8],
+    rows: &[u8],
+    index: &[u16],
     b: &[u8],
     stack: &mut [u64],
 ) -> Answer
-    requires { ⌜ (size .symbols ≤ 256) × (StackRoom (length (now b) / 2) (now stack) × (4 ≤ length (now stack))) ⌝ }
-    requires { ⌜ WellFormed (automatonIn size (finals .words) (now ranks) (now rows)) ⌝ }
-    ensures { λ r. ⌜ acceptanceOf r ≡ nodesAcceptance
-        (automatonIn size (finals .words) (now (ranks .entry)) (now (rows .entry))) (bytes.numbers (now (b .entry))) ⌝ }
+    requires { ⌜ ((k : ℕ) × Evaluable k (now ranks) (now rows) (now index)) ⌝ }
+    requires { ⌜ StackRoom (length (now b) / 2) (now stack) × (4 ≤ length (now stack)) ⌝ }
+    ensures { λ r. ⌜ ((k : ℕ) → Evaluable k (now (ranks .entry)) (now (rows .entry)) (now (index .entry))
+        → acceptanceOf r ≡ nodesAcceptance (now (ranks .entry)) (keep (member (finals .words)) (from 0 256))
+        (rulesIn (now (rows .entry)) k) (bytes.numbers (now (b .entry)))) ⌝ }
 {
-    let mut first: [u16; 257] = [0; 257];
-    let mut order: [u16; 1024] = [0; 1024];
-    group_rules(rows, size.rules, size.symbols, &mut first, &mut order);
-    match evaluate(size, ranks, rows, &first, &order, b, stack) {
+    match evaluate(ranks, rows, index, b, stack) {
         Height::Refused(cause) => Answer::Refused(cause),
-        Height::At(height) => answer_on(height, finals, size.states, stack),
+        Height::At(height) => answer_on(height, finals, stack),
     }
 }
 
 // The answer for a tree's body; a body of at most 64 nodes gets a small stack, which is cleared sooner.
-fn accept_nodes(
-    size: Size,
-    finals: StateSet,
-    ranks: &[u8; 256],
-    rows: &[u16; 10240],
-    b: &[u8],
-) -> Answer
-    requires { ⌜ size .symbols ≤ 256 ⌝ }
-    requires { ⌜ WellFormed (automatonIn size (finals .words) (now ranks) (now rows)) ⌝ }
-    ensures { λ r. ⌜ acceptanceOf r ≡ nodesAcceptance
-        (automatonIn size (finals .words) (now (ranks .entry)) (now (rows .entry))) (bytes.numbers (now (b .entry))) ⌝ }
+fn accept_nodes(finals: StateSet, ranks: &[u8], rows: &[u8], index: &[u16], b: &[u8]) -> Answer
+    requires { ⌜ ((k : ℕ) × Evaluable k (now ranks) (now rows) (now index)) ⌝ }
+    ensures { λ r. ⌜ ((k : ℕ) → Evaluable k (now (ranks .entry)) (now (rows .entry)) (now (index .entry))
+        → acceptanceOf r ≡ nodesAcceptance (now (ranks .entry)) (keep (member (finals .words)) (from 0 256))
+        (rulesIn (now (rows .entry)) k) (bytes.numbers (now (b .entry)))) ⌝ }
 {
     if b.len() <= 128 {
         let mut stack: [u64; 256] = [0; 256];
-        return accept_on(size, finals, ranks, rows, b, &mut stack);
+        return accept_on(finals, ranks, rows, index, b, &mut stack);
     }
     let mut stack: [u64; 4096] = [0; 4096];
-    accept_on(size, finals, ranks, rows, b, &mut stack)
+    accept_on(finals, ranks, rows, index, b, &mut stack)
 }
 
 // Whether `t` is one record of kind 16 with an even body, and nothing after it.
@@ -274,15 +254,17 @@ fn is_tree(t: &[u8]) -> bool
     body(t).len() % 2 == 0
 }
 
-// Whether a decoded table accepts a tree, or the tree's first cause of refusal.
+// Whether a decoded table accepts a tree, or the tree's first cause of refusal; the index is made in a lent array.
 pub fn accept(
     size: Size,
     finals: StateSet,
-    ranks: &[u8; 256],
-    rows: &[u16; 10240],
+    ranks: &[u8],
+    rows: &[u8],
+    index: &mut [u16],
     tree: &[u8],
 ) -> Answer
-    requires { ⌜ size .symbols ≤ 256 ⌝ }
+    requires { ⌜ (size .symbols ≤ length (now ranks)) × (257 + size .rules ≤ length (now index)) ⌝ }
+    requires { ⌜ Rows (now rows) (size .rules) ⌝ }
     requires { ⌜ WellFormed (automatonIn size (finals .words) (now ranks) (now rows)) ⌝ }
     ensures { λ r. ⌜ acceptanceOf r
         ≡ treeAcceptance (automatonIn size (finals .words) (now (ranks .entry)) (now (rows .entry))) (now (tree .entry)) ⌝ }
@@ -294,5 +276,7 @@ pub fn accept(
     if b.len() / 2 > 16384 {
         return Answer::Refused(Refusal::TreeAboveLimit);
     }
-    accept_nodes(size, finals, ranks, rows, b)
+    let m = size.symbols;
+    index_rules(rows, size.rules, Key::Symbol, m, index);
+    accept_nodes(finals, &ranks[..m], rows, index, b)
 }

@@ -1,7 +1,9 @@
 // Checks trees against tables, and computes the downward simulation preorder of a table's states.
 mod checking;
+mod entries;
 mod evaluation;
 mod index;
+mod matching;
 mod query;
 mod rounds;
 mod states;
@@ -17,10 +19,11 @@ pub use query::compare;
 pub use query::relate;
 
 // Exported for the crates above: parts of the work, on decoded arrays and numbers in range.
-pub use index::chain_rules;
-pub use query::has_pair;
-pub use query::is_matched_by;
-pub use rounds::Relation;
-pub use rounds::differ;
+pub use index::Key;
+pub use index::index_rules;
+pub use index::rules_of;
+pub use matching::Relation;
+pub use matching::has_pair;
+pub use matching::is_matched_by;
 pub use rounds::simulate;
 pub use states::all_in;

@@ -2,22 +2,32 @@
 ghost use Prim.Native.Nat.{ℕ, _*_, _+_, _≤_, _<_};
 ghost use mathlib.Core.Path.{_≡_};
 ghost use mathlib.Core.List.{[], _∷_};
-ghost use lib.ListN.{length, take, drop};
+ghost use lib.ListN.{length, getD};
 ghost use Rattle.automaton.specs.Lists.{from};
 ghost use Rattle.automaton.specs.StateSet.{setOf};
 ghost use Rattle.automaton.specs.Table.{judge};
-ghost use Rattle.automaton.specs.Decoded.{ruleAt};
+ghost use Rattle.automaton.specs.Automaton.{Rule};
+ghost use Rattle.automaton.specs.Read.{found};
+ghost use Rattle.automaton.specs.Row.{rulesIn, Rows};
 ghost use Rattle.automaton.specs.Inner.{over};
 ghost use Rattle.simulation.specs.Simulation as simulation;
-ghost use Rattle.simulation.specs.Query.{relatedOf, relationQuery, relationAfter, Compares};
-ghost use Rattle.simulation.specs.Words.{rulesIn, relationWords};
-ghost use Rattle.simulation.specs.Inner.{RowRanged, StatesBelow, bytesOf, onesOf, firstUnmatched};
+ghost use Rattle.simulation.specs.Query.{relatedOf, relationQuery, relationAfter, comparisonOf, Compares};
+ghost use Rattle.simulation.specs.Words.{relationIn};
+ghost use Rattle.simulation.specs.Index.{keyed};
+ghost use Rattle.simulation.specs.Inner.{Answering, Simulable, bytesOf, onesIn, onesOf, firstUnmatched, comparedBy};
+use crate::index::Key;
+use crate::index::index_rules;
+use crate::index::rules_of;
+use crate::matching::Relation;
+use crate::matching::has_match;
+use crate::matching::has_pair;
 use crate::rounds::simulate;
-use crate::rounds::simulate_into;
 use automaton::Judged;
 use automaton::Refusal;
+use automaton::Size;
 use automaton::StateSet;
 use automaton::decode;
+use automaton::target_of;
 
 // The rounds and the number of pairs, or the refusal.
 pub enum Related {
@@ -40,7 +50,7 @@ fn all_states(n: usize) -> StateSet
     let mut set = StateSet::empty();
     let mut q: usize = 0;
     while q < n {
-        set = set.with(q);
+        set = set.with(q as u8);
         q += 1;
     }
     set
@@ -59,8 +69,8 @@ fn put_word(out: &mut [u8], at: usize, word: u64)
 }
 
 // The rows of n states at the start of `out`, the bytes of their words in order.
-fn put_rows(words: &[u64], n: usize, out: &mut [u8])
-    requires { ⌜ (n ≤ 256) × (4 * n ≤ length (now words)) ⌝ }
+fn put_rows(words: &[u64; 1024], n: usize, out: &mut [u8])
+    requires { ⌜ n ≤ 256 ⌝ }
     requires { ⌜ 32 * n ≤ length (now out) ⌝ }
     ensures { λ _. ⌜ now (out .exit) ≡ over (now (out .entry)) 0 (bytesOf (now (words .entry)) (32 * n)) ⌝ }
 {
@@ -71,29 +81,51 @@ fn put_rows(words: &[u64], n: usize, out: &mut [u8])
     }
 }
 
+// How many bits of a word are set.
+fn count_ones(word: u64) -> usize
+    ensures { λ r. ⌜ r ≡ onesIn word ⌝ }
+{
+    u64::count_ones(word) as usize
+}
+
 // How many pairs the rows of n states hold.
-fn count_pairs(words: &[u64], n: usize) -> usize
-    requires { ⌜ (n ≤ 256) × (4 * n ≤ length (now words)) ⌝ }
-    ensures { λ r. ⌜ r ≡ onesOf (take (4 * n) (now (words .entry))) ⌝ }
+fn count_pairs(words: &[u64; 1024], n: usize) -> usize
+    requires { ⌜ n ≤ 256 ⌝ }
+    ensures { λ r. ⌜ r ≡ onesOf (now (words .entry)) (4 * n) ⌝ }
 {
     let mut count: usize = 0;
     let mut i: usize = 0;
     while i < 4 * n {
-        count += u64::count_ones(words[i]) as usize;
+        count += count_ones(words[i]);
         i += 1;
     }
     count
 }
 
+// The simulation preorder of all states of a decoded table, over words that are 0; returns its rounds, and leaves the index by target.
+fn simulate_all(size: Size, rows: &[u8], index: &mut [u16], words: &mut [u64; 1024]) -> usize
+    requires { ⌜ (size .states ≤ 256) × (Rows (now rows) (size .rules) × (257 + size .rules ≤ length (now index))) ⌝ }
+    requires { ⌜ Simulable (rulesIn (now rows) (size .rules)) (from 0 (size .states)) ⌝ }
+    requires { ⌜ ((i : ℕ) → getD (now words) i 0 ≡ 0) ⌝ }
+    ensures { λ r. ⌜ r ≡ simulation.rounds (rulesIn (now (rows .entry)) (size .rules)) (from 0 (size .states)) ⌝ }
+    ensures { λ r. ⌜ relationIn (now (words .exit))
+        ≡ simulation.relation (rulesIn (now (rows .entry)) (size .rules)) (from 0 (size .states)) ⌝ }
+    ensures { λ r. ⌜ Answering (size .rules) (size .states) (now (rows .entry)) (now (index .exit)) ⌝ }
+{
+    let n = size.states;
+    index_rules(rows, size.rules, Key::Target, n, index);
+    simulate(all_states(n), size, rows, index, words)
+}
+
 // Writes the simulation preorder of a table's states to the start of `out`, 32 bytes to a state, and returns its rounds
-// and the number of its pairs. Refuses a table as `decode` does, and an `out` that is too short with 13; a refusal leaves
+// and the number of its pairs. Refuses a table as `judge` does, and an `out` that is too short with 13; a refusal leaves
 // `out` as it is.
 pub fn relate(table: &[u8], out: &mut [u8]) -> Related
     ensures { λ r. ⌜ relatedOf r ≡ relationQuery (now (table .entry)) (now (out .entry)) ⌝ }
     ensures { λ r. ⌜ now (out .exit) ≡ relationAfter (judge (now (table .entry))) (now (out .entry)) ⌝ }
 {
     let mut ranks: [u8; 256] = [0; 256];
-    let mut rows: [u16; 10240] = [0; 10240];
+    let mut rows: [u8; 11264] = [0; 11264];
     let decoded = decode(table, &mut ranks, &mut rows);
     let judged = decoded.judged;
     match judged {
@@ -103,104 +135,32 @@ pub fn relate(table: &[u8], out: &mut [u8]) -> Related
             if out.len() < 32 * n {
                 return Related::Refused(Refusal::ShortOutput);
             }
-            let mut words: [u64; 1024] = [0; 1024];
-            let rounds = simulate_into(all_states(n), n, size.rules, &ranks, &rows, &mut words);
-            put_rows(&words, n, out);
+            let mut index: [u16; 1281] = [0; 1281];
+            let mut relation = Relation {
+                words: [0; 1024],
+                rounds: 0,
+            };
+            let rounds = simulate_all(size, &rows, &mut index, &mut relation.words);
+            relation.rounds = rounds;
+            put_rows(&relation.words, n, out);
             Related::Pairs {
-                rounds,
-                pairs: count_pairs(&words, n),
+                rounds: relation.rounds,
+                pairs: count_pairs(&relation.words, n),
             }
         }
     }
 }
 
-// Whether the words hold the pair of q and r.
-pub fn has_pair(words: &[u64; 1024], q: usize, r: usize) -> bool
-    requires { ⌜ (q < 256) × (r < 256) ⌝ }
-    ensures { λ a. ⌜ ((R : simulation.Relation) → now (words .entry) ≡ relationWords R → a ≡ simulation.related R q r) ⌝ }
-{
-    (words[4 * q + r / 64] >> (r % 64)) % 2 == 1
-}
-
-// Whether the `count` states from index a on are paired with those from b on.
-fn children_paired(words: &[u64; 1024], rows: &[u16], a: usize, b: usize, count: usize) -> bool
-    requires { ⌜ (a + count ≤ length (now rows)) × (b + count ≤ length (now rows)) ⌝ }
-    requires { ⌜ StatesBelow (now rows) a count × StatesBelow (now rows) b count ⌝ }
-    ensures { λ x. ⌜ ((R : simulation.Relation) → now (words .entry) ≡ relationWords R → x ≡ simulation.paired R
-        (take count (drop a (now (rows .entry)))) (take count (drop b (now (rows .entry))))) ⌝ }
-{
-    let mut j: usize = 0;
-    while j < count {
-        if !has_pair(words, rows[a + j] as usize, rows[b + j] as usize) {
-            return false;
-        }
-        j += 1;
-    }
-    true
-}
-
-// Whether rule i is matched by rule j.
-pub fn is_matched_by(
-    words: &[u64; 1024],
-    ranks: &[u8; 256],
-    rows: &[u16; 10240],
-    i: usize,
-    j: usize,
-) -> bool
-    requires { ⌜ (i < 1024) × (j < 1024) ⌝ }
-    requires { ⌜ RowRanged (now ranks) (now rows) i × RowRanged (now ranks) (now rows) j ⌝ }
-    ensures { λ x. ⌜ ((R : simulation.Relation) → now (words .entry) ≡ relationWords R → x ≡ simulation.matchedBy R
-        (ruleAt (now (ranks .entry)) (now (rows .entry)) i) (ruleAt (now (ranks .entry)) (now (rows .entry)) j)) ⌝ }
-{
-    let symbol = rows[10 * i];
-    if rows[10 * j] != symbol {
-        return false;
-    }
-    let rank = ranks[symbol as usize] as usize;
-    children_paired(words, rows, 10 * i + 2, 10 * j + 2, rank)
-}
-
-// Whether one of the k rules has target r and matches rule i.
-fn has_match(
-    words: &[u64; 1024],
-    ranks: &[u8; 256],
-    rows: &[u16; 10240],
-    k: usize,
-    r: usize,
-    i: usize,
-) -> bool
-    requires { ⌜ (k ≤ 1024) × (i < k) ⌝ }
-    requires { ⌜ ((j : ℕ) → j < k → RowRanged (now ranks) (now rows) j) ⌝ }
-    ensures { λ x. ⌜ ((R : simulation.Relation) → now (words .entry) ≡ relationWords R → x ≡ simulation.matched
-        (rulesIn (now (ranks .entry)) (now (rows .entry)) k) R r (ruleAt (now (ranks .entry)) (now (rows .entry)) i)) ⌝ }
-{
-    let mut j: usize = 0;
-    while j < k {
-        if rows[10 * j + 1] as usize == r && is_matched_by(words, ranks, rows, i, j) {
-            return true;
-        }
-        j += 1;
-    }
-    false
-}
-
-// The number of the first rule of q that no rule of r matches; k where each has a match.
-fn first_unmatched(
-    words: &[u64; 1024],
-    ranks: &[u8; 256],
-    rows: &[u16; 10240],
-    k: usize,
-    q: usize,
-    r: usize,
-) -> usize
-    requires { ⌜ k ≤ 1024 ⌝ }
-    requires { ⌜ ((j : ℕ) → j < k → RowRanged (now ranks) (now rows) j) ⌝ }
-    ensures { λ i. ⌜ ((R : simulation.Relation) → now (words .entry) ≡ relationWords R
-        → i ≡ firstUnmatched (rulesIn (now (ranks .entry)) (now (rows .entry)) k) R q r) ⌝ }
+// The number of the first rule of q that is matched by none of some rules; k where each is.
+fn first_unmatched(words: &[u64; 1024], rows: &[u8], k: usize, q: u8, numbers: &[u16]) -> usize
+    requires { ⌜ Rows (now rows) k ⌝ }
+    requires { ⌜ ((r : ℕ) × (now numbers ≡ keyed (λ (u : Rule). u .target) (now rows) r 0 k)) ⌝ }
+    ensures { λ i. ⌜ ((r : ℕ) → now (numbers .entry) ≡ keyed (λ (u : Rule). u .target) (now (rows .entry)) r 0 k
+        → i ≡ firstUnmatched (rulesIn (now (rows .entry)) k) (relationIn (now (words .entry))) q r) ⌝ }
 {
     let mut i: usize = 0;
     while i < k {
-        if rows[10 * i + 1] as usize == q && !has_match(words, ranks, rows, k, r, i) {
+        if target_of(rows, i) == q && !has_match(words, rows, i, rows, numbers) {
             return i;
         }
         i += 1;
@@ -208,30 +168,46 @@ fn first_unmatched(
     k
 }
 
+// Whether state q of a decoded table is simulated by state r; if not, the number of the first rule of q that no rule of r matches.
+fn compare_states(size: Size, rows: &[u8], q: u8, r: u8) -> Compared
+    requires { ⌜ (size .states ≤ 256) × ((q < size .states) × (r < size .states)) ⌝ }
+    requires { ⌜ Rows (now rows) (size .rules) × Simulable (rulesIn (now rows) (size .rules)) (from 0 (size .states)) ⌝ }
+    ensures { λ a. ⌜ comparisonOf a ≡ found (comparedBy (rulesIn (now (rows .entry)) (size .rules))
+        (simulation.relation (rulesIn (now (rows .entry)) (size .rules)) (from 0 (size .states))) q r) ⌝ }
+{
+    let mut index: [u16; 1281] = [0; 1281];
+    let mut relation = Relation {
+        words: [0; 1024],
+        rounds: 0,
+    };
+    let rounds = simulate_all(size, rows, &mut index, &mut relation.words);
+    relation.rounds = rounds;
+    if has_pair(&relation.words, q, r) {
+        return Compared::Yes;
+    }
+    let numbers = rules_of(&index, r as usize);
+    Compared::Rule(first_unmatched(&relation.words, rows, size.rules, q, numbers))
+}
+
 // Whether state q is simulated by state r; if not, the number of the first rule of q that no rule of r matches.
-// Refuses a table as `decode` does, and a state that the table does not have with 12.
+// Refuses a table as `judge` does, and a state that the table does not have with 12.
 pub fn compare(table: &[u8], q: usize, r: usize) -> Compared
     ensures { λ a. ⌜ Compares (now (table .entry)) q r a ⌝ }
 {
     let mut ranks: [u8; 256] = [0; 256];
-    let mut rows: [u16; 10240] = [0; 10240];
+    let mut rows: [u8; 11264] = [0; 11264];
     let decoded = decode(table, &mut ranks, &mut rows);
     let judged = decoded.judged;
     match judged {
         Judged::Refused(cause) => Compared::Refused(cause),
         Judged::Table(size) => {
-            let n = size.states;
-            if q >= n {
+            if q >= size.states {
                 return Compared::Refused(Refusal::UnknownState);
             }
-            if r >= n {
+            if r >= size.states {
                 return Compared::Refused(Refusal::UnknownState);
             }
-            let words = simulate(all_states(n), n, size.rules, &ranks, &rows).words;
-            if has_pair(&words, q, r) {
-                return Compared::Yes;
-            }
-            Compared::Rule(first_unmatched(&words, &ranks, &rows, size.rules, q, r))
+            compare_states(size, &rows, q as u8, r as u8)
         }
     }
 }

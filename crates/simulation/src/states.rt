@@ -1,24 +1,34 @@
-// States that stand in rows.
-ghost use Prim.Native.Nat.{_+_, _≤_};
+// Children of a rule against a set of states.
 ghost use mathlib.Core.Path.{_≡_};
-ghost use lib.ListN.{length, take, drop};
 ghost use Rattle.automaton.specs.Lists.{all};
 ghost use Rattle.automaton.specs.StateSet.{member};
-ghost use Rattle.simulation.specs.Inner.{StatesBelow};
+ghost use Rattle.simulation.specs.Tree.{any};
 use automaton::StateSet;
 
-// Whether the `count` states from index `at` on are all in a set.
-pub fn all_in(set: StateSet, rows: &[u16], at: usize, count: usize) -> bool
-    requires { ⌜ at + count ≤ length (now rows) ⌝ }
-    requires { ⌜ StatesBelow (now rows) at count ⌝ }
-    ensures { λ r. ⌜ r ≡ all (member (set .words)) (take count (drop at (now (rows .entry)))) ⌝ }
+// Whether all of the states are in a set.
+pub fn all_in(set: StateSet, states: &[u8]) -> bool
+    ensures { λ r. ⌜ r ≡ all (member (set .words)) (now (states .entry)) ⌝ }
 {
     let mut j: usize = 0;
-    while j < count {
-        if !set.has(rows[at + j] as usize) {
+    while j < states.len() {
+        if !set.has(states[j]) {
             return false;
         }
         j += 1;
     }
     true
+}
+
+// Whether one of the states is in a set.
+pub fn some_in(set: StateSet, states: &[u8]) -> bool
+    ensures { λ r. ⌜ r ≡ any (member (set .words)) (now (states .entry)) ⌝ }
+{
+    let mut j: usize = 0;
+    while j < states.len() {
+        if set.has(states[j]) {
+            return true;
+        }
+        j += 1;
+    }
+    false
 }

@@ -1,11 +1,13 @@
 // What the calls of `automaton` find in some bytes, a line each.
 ghost use mathlib.Core.Path.{_≡_};
-ghost use Prim.Native.Nat.{_+_, _≤_, _<_};
+ghost use Prim.Native.Nat.{_≤_};
 ghost use lib.ListN.{length};
 ghost use Rattle.automaton.specs.Automaton.{WellFormed};
+ghost use Rattle.automaton.specs.Row.{Row, Rows};
 ghost use Rattle.automaton.specs.Decoded.{automatonIn};
 use automaton::Judged;
 use automaton::Opened;
+use automaton::Refusal;
 use automaton::Size;
 use automaton::StateSet;
 use automaton::Written;
@@ -62,11 +64,7 @@ fn ending(count: usize, sum: u64, rest: &[u8]) {
 // Judges a table.
 fn table(t: &[u8]) {
     match automaton::judge(t) {
-        Judged::Refused(cause) => {
-            word(b"refused");
-            number(automaton::number(cause) as usize);
-            end();
-        }
+        Judged::Refused(cause) => refused(cause),
         Judged::Table(size) => {
             word(b"table");
             number(size.states);
@@ -77,67 +75,45 @@ fn table(t: &[u8]) {
     }
 }
 
-// Decodes a table and writes it back; of a refused one, whether the lent arrays stayed.
+fn refused(cause: Refusal) {
+    word(b"refused");
+    number(automaton::number(cause) as usize);
+    end();
+}
+
+// Decodes a table and writes it back.
 fn decode(t: &[u8]) {
     let mut ranks = [7u8; 256];
-    let mut rows = [7u16; 10240];
+    let mut rows = [7u8; 11264];
     let d = automaton::decode(t, &mut ranks, &mut rows);
     let judged = d.judged;
     let finals = d.finals;
     match judged {
-        Judged::Refused(_) => kept(&ranks, &rows),
+        Judged::Refused(cause) => refused(cause),
         Judged::Table(size) => {
             print_ranks(&ranks, size.symbols);
             print_finals(finals, size.states);
-            print_rules(&ranks, &rows, size.rules);
+            print_rules(&rows, size.rules);
             write(t, size, finals, &ranks, &rows);
         }
     }
 }
 
-// Whether the lent arrays are as they were.
-fn kept(ranks: &[u8; 256], rows: &[u16; 10240]) {
-    if same_ranks(ranks) && same_rows(rows) {
-        word(b"kept");
-    } else {
-        word(b"changed");
-    }
-    end();
-}
-
-fn same_ranks(ranks: &[u8; 256]) -> bool {
-    for i in 0..256 {
-        if ranks[i] != 7 {
-            return false;
-        }
-    }
-    true
-}
-
-fn same_rows(rows: &[u16; 10240]) -> bool {
-    for i in 0..10240 {
-        if rows[i] != 7 {
-            return false;
-        }
-    }
-    true
-}
-
-fn print_ranks(ranks: &[u8; 256], m: usize) {
+fn print_ranks(ranks: &[u8], m: usize)
+    requires { ⌜ m ≤ length (now ranks) ⌝ }
+{
     word(b"ranks");
-    for i in 0..256 {
-        if i < m {
-            number(wide(ranks[i]));
-        }
-    }
+    print_all(&ranks[..m]);
     end();
+}
+
+fn print_all(values: &[u8]) {
+    for i in 0..values.len() {
+        number(wide(values[i]));
+    }
 }
 
 fn wide(x: u8) -> usize {
-    x as usize
-}
-
-fn wide16(x: u16) -> usize {
     x as usize
 }
 
@@ -145,7 +121,7 @@ fn print_finals(finals: StateSet, n: usize) {
     word(b"finals");
     for q in 0..256 {
         if q < n {
-            if finals.has(q) {
+            if finals.has(q as u8) {
                 number(q);
             }
         }
@@ -153,40 +129,28 @@ fn print_finals(finals: StateSet, n: usize) {
     end();
 }
 
-fn print_rules(ranks: &[u8; 256], rows: &[u16; 10240], k: usize) {
-    for i in 0..1024 {
-        if i < k {
-            print_rule(ranks, rows, i);
-        }
+fn print_rules(rows: &[u8], k: usize)
+    requires { ⌜ Rows (now rows) k ⌝ }
+{
+    for i in 0..k {
+        print_rule(rows, i);
     }
 }
 
-fn print_rule(ranks: &[u8; 256], rows: &[u16; 10240], i: usize)
-    requires { ⌜ i < 1024 ⌝ }
+fn print_rule(rows: &[u8], i: usize)
+    requires { ⌜ Row (now rows) i ⌝ }
 {
-    let symbol = wide16(rows[10 * i]);
     word(b"rule");
-    number(symbol);
-    number(wide16(rows[10 * i + 1]));
-    if symbol < 256 {
-        print_children(rows, 10 * i + 2, wide(ranks[symbol]));
-    }
+    number(wide(automaton::symbol_of(rows, i)));
+    number(wide(automaton::target_of(rows, i)));
+    print_all(automaton::children_of(rows, i));
     end();
 }
 
-fn print_children(rows: &[u16; 10240], start: usize, rank: usize)
-    requires { ⌜ start + 8 ≤ 10240 ⌝ }
-{
-    for j in 0..8 {
-        if j < rank {
-            number(wide16(rows[start + j]));
-        }
-    }
-}
-
 // Writes the table into a buffer that is longer than it by 16 bytes, and into one that is a byte too short.
-fn write(t: &[u8], size: Size, finals: StateSet, ranks: &[u8; 256], rows: &[u16; 10240])
-    requires { ⌜ size .symbols ≤ 256 ⌝ }
+fn write(t: &[u8], size: Size, finals: StateSet, ranks: &[u8], rows: &[u8])
+    requires { ⌜ size .symbols ≤ length (now ranks) ⌝ }
+    requires { ⌜ Rows (now rows) (size .rules) ⌝ }
     requires { ⌜ WellFormed (automatonIn size (finals .words) (now ranks) (now rows)) ⌝ }
 {
     if t.len() < 1 {
@@ -210,8 +174,9 @@ fn filled() -> [u8; 27432]
 }
 
 // Writes the table into `out`: its length or the refusal, and a checksum of all of `out` afterwards.
-fn attempt(size: Size, finals: StateSet, ranks: &[u8; 256], rows: &[u16; 10240], out: &mut [u8])
-    requires { ⌜ size .symbols ≤ 256 ⌝ }
+fn attempt(size: Size, finals: StateSet, ranks: &[u8], rows: &[u8], out: &mut [u8])
+    requires { ⌜ size .symbols ≤ length (now ranks) ⌝ }
+    requires { ⌜ Rows (now rows) (size .rules) ⌝ }
     requires { ⌜ WellFormed (automatonIn size (finals .words) (now ranks) (now rows)) ⌝ }
 {
     match automaton::write(size, finals, ranks, rows, out) {

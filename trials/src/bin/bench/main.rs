@@ -1,9 +1,10 @@
-//! Measures the proved library and the checker on named workloads, and the
-//! stack that each call of the proved library needs.
+//! Measures the proved library and plain Rust on named workloads, what reducing
+//! gains, and the stack that each call needs.
 
 mod measure;
 mod stack;
 mod tables;
+mod text;
 mod workloads;
 
 use std::env;
@@ -24,6 +25,8 @@ fn main() -> ExitCode {
     let workloads = workloads::all();
     tables::list(&workloads);
     tables::times(&workloads, effort);
+    let [forms, reduced] = workloads.last_chunk().expect("joined forms, and these reduced");
+    tables::gains(forms, reduced, effort);
     tables::stacks(&workloads, effort);
     ExitCode::SUCCESS
 }

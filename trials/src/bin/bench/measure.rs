@@ -1,4 +1,5 @@
-use std::time::{Duration, Instant};
+use std::ffi::{c_int, c_long};
+use std::time::Duration;
 
 /// How long is measured.
 #[derive(Clone, Copy)]
@@ -21,24 +22,33 @@ impl Effort {
         Self { runs: 3, slow_runs: 1, least: Duration::from_millis(2), all_stacks: false };
 }
 
-/// What a call takes on two sides, as medians of runs in which they take turns.
-pub struct Comparison {
-    pub seconds: [f64; 2],
-    /// Of the first side to the second, in each run.
-    pub ratio: f64,
+/// What a call takes on each side, in runs in which the sides take turns.
+pub struct Comparison<const SIDES: usize> {
+    seconds: [Vec<f64>; SIDES],
 }
 
-pub fn compare(effort: Effort, sides: [&mut dyn FnMut(); 2]) -> Comparison {
-    let mut sides = sides.map(|call| Side::warm(call, effort.least));
-    let slow = sides.iter().any(Side::is_slow);
-    for _ in 1..if slow { effort.slow_runs } else { effort.runs } {
-        for side in &mut sides {
-            side.measure();
+impl<const SIDES: usize> Comparison<SIDES> {
+    pub fn new(effort: Effort, sides: [&mut dyn FnMut(); SIDES]) -> Self {
+        let mut sides = sides.map(|call| Side::warm(call, effort.least));
+        let slow = sides.iter().any(Side::is_slow);
+        for _ in 1..if slow { effort.slow_runs } else { effort.runs } {
+            for side in &mut sides {
+                side.measure();
+            }
         }
+        Self { seconds: sides.map(|side| side.seconds) }
     }
-    let [first, second] = sides.map(|side| side.seconds);
-    let ratios = first.iter().zip(&second).map(|(first, second)| first / second).collect();
-    Comparison { seconds: [first, second].map(median), ratio: median(ratios) }
+
+    /// The median of a side's runs.
+    pub fn seconds(&self, side: usize) -> f64 {
+        median(self.seconds[side].clone())
+    }
+
+    /// The median of the ratios of one side to another in each run.
+    pub fn ratio(&self, side: usize, to: usize) -> f64 {
+        let runs = self.seconds[side].iter().zip(&self.seconds[to]);
+        median(runs.map(|(side, to)| side / to).collect())
+    }
 }
 
 fn median(mut values: Vec<f64>) -> f64 {
@@ -70,10 +80,32 @@ impl<'a> Side<'a> {
 
     /// Returns how long the measurement took.
     fn measure(&mut self) -> Duration {
-        let start = Instant::now();
+        let start = thread_time();
         (0..self.loops).for_each(|_| (self.call)());
-        let time = start.elapsed();
+        let time = thread_time() - start;
         self.seconds.push(time.as_secs_f64() / f64::from(self.loops));
         time
     }
+}
+
+/// A `timespec`.
+#[repr(C)]
+struct Time {
+    seconds: c_long,
+    nanoseconds: c_long,
+}
+
+const CLOCK_THREAD_CPUTIME_ID: c_int = 3;
+
+unsafe extern "C" {
+    fn clock_gettime(clock: c_int, time: *mut Time) -> c_int;
+}
+
+/// How long this thread has run, without the times in which others did.
+fn thread_time() -> Duration {
+    let mut time = Time { seconds: 0, nanoseconds: 0 };
+    // SAFETY: the call writes a `timespec`.
+    let answer = unsafe { clock_gettime(CLOCK_THREAD_CPUTIME_ID, &mut time) };
+    assert_eq!(answer, 0, "no clock");
+    Duration::new(time.seconds as u64, time.nanoseconds as u32)
 }

@@ -7,7 +7,7 @@ use std::mem::MaybeUninit;
 use std::ptr;
 
 use fensullay::sys;
-use trials::{Call, Loan};
+use trials::{Call, Loan, Swift};
 
 const PAGE: usize = 4096;
 const PAGES: usize = 256;
@@ -40,48 +40,68 @@ unsafe extern "C" {
     fn pthread_join(thread: c_ulong, value: *mut *mut c_void) -> c_int;
 }
 
-type Routine = unsafe extern "C" fn(&Arguments);
-
 /// The bytes of stack that a call of the proved library needs on this memory.
-pub fn needed(call: &Call, loan: &mut Loan) -> usize {
-    let routine: Routine = match call {
-        Call::Judge { .. } => judge,
-        Call::Check { .. } => check,
-        Call::Relate { .. } => relate,
-        Call::Compare { .. } => compare,
-        Call::Reduce { .. } => reduce,
-        Call::Report { .. } => report,
-    };
-    let pair = if let Call::Compare { q, r, .. } = *call { (q, r) } else { (0, 0) };
-    let arguments = Arguments::new(loan, pair);
-    depth(&mut Work { routine, arguments }) - depth(&mut Work { routine: nothing, arguments })
+pub fn of_library(call: &Call, loan: &mut Loan) -> usize {
+    let (input, input_length) = (loan.input.start(), loan.input.length());
+    let (tree, tree_length) = (loan.tree.start(), loan.tree.length());
+    let (out, out_length) = (loan.out.start(), loan.out.length());
+    let (numbers, count) = (loan.numbers.start(), loan.numbers.length());
+    let (counts, counts_length) = (loan.counts.start(), loan.counts.length());
+    // SAFETY: the pointers and lengths name memory that is borrowed until the
+    // call has ended, and no two of them overlap.
+    needed(&mut || unsafe {
+        match *call {
+            Call::Judge { .. } => sys::fensullay_judge(input, input_length, numbers, count),
+            Call::Check { .. } => {
+                sys::fensullay_check(counts, counts_length, input, input_length, tree, tree_length)
+            }
+            Call::Relate { .. } => {
+                sys::fensullay_relate(input, input_length, out, out_length, numbers, count)
+            }
+            Call::Compare { q, r, .. } => {
+                sys::fensullay_compare(input, input_length, q, r, numbers, count)
+            }
+            Call::Reduce { .. } => {
+                sys::fensullay_reduce(input, input_length, out, out_length, numbers, count)
+            }
+            Call::Report { .. } => {
+                sys::fensullay_report(input, input_length, out, out_length, numbers, count)
+            }
+        };
+    })
 }
 
+/// The bytes of stack that plain Rust needs for a call on this memory.
+pub fn of_plain(call: &Call, loan: &mut Loan) -> usize {
+    needed(&mut || {
+        call.pass(&Swift, loan);
+    })
+}
+
+/// How much deeper than nothing some work goes.
+fn needed(work: Work) -> usize {
+    depth(work) - depth(&mut || {})
+}
+
+type Work<'a> = &'a mut dyn FnMut();
+
 /// How deep a thread goes on its stack.
-fn depth(work: &mut Work) -> usize {
+fn depth(mut work: Work) -> usize {
     let mut stack = vec![Page([PAINT; PAGE]); PAGES];
-    run_on(&mut stack, start, ptr::from_mut(work).cast());
+    run_on(&mut stack, start, ptr::from_mut(&mut work).cast());
     let bytes = stack.iter().flat_map(|page| page.0);
     let untouched = bytes.take_while(|&byte| byte == PAINT).count();
     assert!(untouched > 0, "the stack is too small");
     PAGE * PAGES - untouched
 }
 
-/// A call, and what it takes.
-struct Work {
-    routine: Routine,
-    arguments: Arguments,
-}
-
-/// Makes the call below what the thread itself takes of the stack.
+/// Does the work below what the thread itself takes of the stack.
 extern "C" fn start(work: *mut c_void) -> *mut c_void {
     let base = MaybeUninit::<[u8; BASE]>::uninit();
     black_box(&base);
-    // SAFETY: the argument is a `Work`, and its pointers name lent memory.
-    unsafe {
-        let Work { routine, arguments } = &*work.cast();
-        routine(arguments);
-    }
+    // SAFETY: the argument is a `Work` that is borrowed until the thread has
+    // ended.
+    unsafe { (*work.cast::<Work>())() };
     black_box(&base);
     ptr::null_mut()
 }
@@ -100,54 +120,4 @@ fn run_on(stack: &mut [Page], start: Start, argument: *mut c_void) {
         assert_eq!(pthread_join(thread, &mut value), 0);
         assert_eq!(pthread_attr_destroy(&mut attributes), 0);
     }
-}
-
-/// What the raw calls take, each pointer with its length.
-#[derive(Clone, Copy)]
-struct Arguments {
-    input: (*const u8, usize),
-    tree: (*const u8, usize),
-    out: (*mut u8, usize),
-    numbers: (*mut usize, usize),
-    counts: (*mut u32, usize),
-    pair: (usize, usize),
-}
-
-impl Arguments {
-    fn new(loan: &mut Loan, pair: (usize, usize)) -> Self {
-        Self {
-            input: (loan.input.start(), loan.input.length()),
-            tree: (loan.tree.start(), loan.tree.length()),
-            out: (loan.out.start(), loan.out.length()),
-            numbers: (loan.numbers.start(), loan.numbers.length()),
-            counts: (loan.counts.start(), loan.counts.length()),
-            pair,
-        }
-    }
-}
-
-unsafe extern "C" fn nothing(_: &Arguments) {}
-
-unsafe extern "C" fn judge(&Arguments { input, numbers, .. }: &Arguments) {
-    unsafe { sys::fensullay_judge(input.0, input.1, numbers.0, numbers.1) };
-}
-
-unsafe extern "C" fn check(&Arguments { input, tree, counts, .. }: &Arguments) {
-    unsafe { sys::fensullay_check(counts.0, counts.1, input.0, input.1, tree.0, tree.1) };
-}
-
-unsafe extern "C" fn relate(&Arguments { input, out, numbers, .. }: &Arguments) {
-    unsafe { sys::fensullay_relate(input.0, input.1, out.0, out.1, numbers.0, numbers.1) };
-}
-
-unsafe extern "C" fn compare(&Arguments { input, pair, numbers, .. }: &Arguments) {
-    unsafe { sys::fensullay_compare(input.0, input.1, pair.0, pair.1, numbers.0, numbers.1) };
-}
-
-unsafe extern "C" fn reduce(&Arguments { input, out, numbers, .. }: &Arguments) {
-    unsafe { sys::fensullay_reduce(input.0, input.1, out.0, out.1, numbers.0, numbers.1) };
-}
-
-unsafe extern "C" fn report(&Arguments { input, out, numbers, .. }: &Arguments) {
-    unsafe { sys::fensullay_report(input.0, input.1, out.0, out.1, numbers.0, numbers.1) };
 }

@@ -1,116 +1,106 @@
 use std::hint::black_box;
 
-use trials::{Call, Library, Plain, Proved};
+use trials::{Call, Library, Loan, Proved, Swift};
 
-use crate::measure::{Comparison, Effort, compare};
+use crate::measure::{Comparison, Effort};
 use crate::stack;
-use crate::workloads::Workload;
+use crate::text::{rate, thousands, time};
+use crate::workloads::{Timed, Workload};
 
 pub fn list(workloads: &[Workload]) {
-    for Workload { name, how, rounds, .. } in workloads {
-        println!("- {name}: {how}; {} rounds", thousands(*rounds));
+    for Workload { name, how, automaton, rounds, .. } in workloads {
+        let states = thousands(automaton.states);
+        let rules = thousands(automaton.rules.len());
+        let symbols = automaton.ranks.len();
+        let rounds = thousands(*rounds);
+        println!(
+            "- {name}: {how}; {states} states, {rules} rules, {symbols} symbols, {rounds} rounds"
+        );
     }
     println!();
 }
 
 /// The table of times, a row for each workload and call.
 pub fn times(workloads: &[Workload], effort: Effort) {
-    println!("| workload | call | proved | plain | ratio | proved, nodes/s | plain, nodes/s |");
+    println!("| workload | call | library | plain | ratio | library, nodes/s | plain, nodes/s |");
     println!("|---|---|---:|---:|---:|---:|---:|");
     for workload in workloads {
-        row(workload, "judge", &workload.judge(), None, effort);
-        for (tree, check) in workload.checks() {
-            let name = format!("check, {} nodes", thousands(tree.nodes));
-            row(workload, &name, &check, Some(tree.nodes), effort);
-        }
-        row(workload, "relate", &workload.relate(), None, effort);
-        row(workload, "reduce", &workload.reduce(), None, effort);
+        workload.timed().iter().for_each(|timed| row(workload, timed, effort));
     }
     println!();
 }
 
-fn row(workload: &Workload, name: &str, call: &Call, nodes: Option<usize>, effort: Effort) {
-    let Comparison { seconds: [proved, plain], ratio } = compare_on(workload, call, effort);
+fn row(workload: &Workload, Timed { name, call, nodes }: &Timed, effort: Effort) {
+    workload.compare_outcomes(call);
+    let mut sides = (side(&Proved, workload, call), side(&Swift, workload, call));
+    let comparison = Comparison::new(effort, [&mut sides.0, &mut sides.1]);
+    let [library, plain] = [0, 1].map(|side| comparison.seconds(side));
     let rate = |seconds: f64| nodes.map_or(String::new(), |nodes| rate(nodes, seconds));
     println!(
         "| {} | {name} | {} | {} | {:.2} | {} | {} |",
         workload.name,
-        time(proved),
+        time(library),
         time(plain),
-        ratio,
-        rate(proved),
+        comparison.ratio(0, 1),
+        rate(library),
         rate(plain),
     );
 }
 
-fn compare_on(workload: &Workload, call: &Call, effort: Effort) -> Comparison {
-    let side = |library: &'static dyn Library| {
-        let mut loan = workload.lend(call);
-        move || {
-            black_box(call.pass(library, black_box(&mut loan)));
-        }
-    };
-    compare(effort, [&mut side(&Proved), &mut side(&Plain)])
-}
-
-fn time(seconds: f64) -> String {
-    let (value, unit) = match seconds {
-        ..1e-6 => (seconds * 1e9, "ns"),
-        ..1e-3 => (seconds * 1e6, "µs"),
-        ..1.0 => (seconds * 1e3, "ms"),
-        _ => (seconds, "s"),
-    };
-    format!("{} {unit}", three_digits(value))
-}
-
-fn rate(nodes: usize, seconds: f64) -> String {
-    format!("{} million", three_digits(nodes as f64 / seconds / 1e6))
-}
-
-/// A number below a million, with a comma before its last three digits.
-fn thousands(number: usize) -> String {
-    match number {
-        ..1000 => number.to_string(),
-        _ => format!("{},{:03}", number / 1000, number % 1000),
+/// A call that is made again and again on memory of its own.
+fn side(library: &dyn Library, workload: &Workload, call: &Call) -> impl FnMut() {
+    let mut loan = workload.lend(call);
+    move || {
+        black_box(call.pass(library, black_box(&mut loan)));
     }
 }
 
-fn three_digits(value: f64) -> String {
-    let decimals = if value >= 100.0 {
-        0
-    } else if value >= 10.0 {
-        1
-    } else {
-        2
-    };
-    format!("{value:.decimals$}")
+/// The table of what is gained where a table is reduced.
+pub fn gains(table: &Workload, reduced: &Workload, effort: Effort) {
+    println!("| {} | table | reduced | ratio |", table.name);
+    println!("|---|---:|---:|---:|");
+    for (name, [old, new]) in sizes(table, reduced) {
+        let ratio = old as f64 / new as f64;
+        println!("| {name} | {} | {} | {ratio:.1} |", thousands(old), thousands(new));
+    }
+    for (name, library) in [("library", &Proved as &dyn Library), ("plain", &Swift)] {
+        for Timed { name: check, call, .. } in table.checks() {
+            let mut sides = (side(library, table, &call), side(library, reduced, &call));
+            let comparison = Comparison::new(effort, [&mut sides.0, &mut sides.1]);
+            let [old, new] = [0, 1].map(|side| time(comparison.seconds(side)));
+            println!("| {check}, {name} | {old} | {new} | {:.1} |", comparison.ratio(0, 1));
+        }
+    }
+    println!();
+}
+
+fn sizes(table: &Workload, reduced: &Workload) -> [(&'static str, [usize; 2]); 3] {
+    let both = [table, reduced];
+    [
+        ("states", both.map(|workload| workload.automaton.states)),
+        ("rules", both.map(|workload| workload.automaton.rules.len())),
+        ("bytes", both.map(|workload| workload.table.len())),
+    ]
 }
 
 /// The table of stacks, the largest need of each call over the workloads.
 pub fn stacks(workloads: &[Workload], effort: Effort) {
     let most = if effort.all_stacks { usize::MAX } else { 1000 };
     let workloads: Vec<_> = workloads.iter().filter(|workload| workload.rounds < most).collect();
-    println!("| call | stack, bytes | stack, KiB |");
-    println!("|---|---:|---:|");
+    println!("| call | stack, bytes | stack, KiB | plain, bytes |");
+    println!("|---|---:|---:|---:|");
     for name in Call::NAMES {
-        let bytes = workloads.iter().map(|workload| stack_of(workload, name)).max().unwrap_or(0);
-        println!("| {name} | {} | {:.1} |", thousands(bytes), bytes as f64 / 1024.0);
+        let [library, plain] = [stack::of_library, stack::of_plain].map(|stack| {
+            let needs = workloads.iter().map(|workload| largest_need(workload, name, stack));
+            needs.max().unwrap_or(0)
+        });
+        let kibibytes = library as f64 / 1024.0;
+        println!("| {name} | {} | {kibibytes:.1} | {} |", thousands(library), thousands(plain));
     }
 }
 
 /// The largest need of the calls of this name.
-fn stack_of(workload: &Workload, name: &str) -> usize {
-    let calls = calls(workload).into_iter().filter(|call| call.name() == name);
-    calls.map(|call| stack::needed(&call, &mut workload.lend(&call))).max().unwrap_or(0)
-}
-
-fn calls(workload: &Workload) -> Vec<Call> {
-    let queries = [
-        workload.judge(),
-        workload.relate(),
-        workload.compare(),
-        workload.reduce(),
-        workload.report(),
-    ];
-    workload.checks().map(|(_, check)| check).chain(queries).collect()
+fn largest_need(workload: &Workload, name: &str, stack: fn(&Call, &mut Loan) -> usize) -> usize {
+    let calls = workload.calls().into_iter().filter(|call| call.name() == name);
+    calls.map(|call| stack(&call, &mut workload.lend(&call))).max().unwrap_or(0)
 }

@@ -13,8 +13,9 @@ pub fn lines(bytes: &[u8], verdict: &Result<Automaton, Refusal>) -> String {
     match verdict {
         Ok(automaton) => table(&mut out, automaton),
         Err(refusal) => {
+            // Judged, and decoded.
             line(&mut out, "refused", [refusal.number()]);
-            out.push_str("kept\n");
+            line(&mut out, "refused", [refusal.number()]);
         }
     }
     out

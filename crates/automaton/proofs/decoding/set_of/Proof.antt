@@ -1,5 +1,6 @@
 -- `automaton::decoding::set_of` meets its contract: the numbers from the index on are still to be added.
 use borrow.Author.Needs.{needs}
+use native.Mathlib.Omega.{arith}
 use Prim.Native.Nat.{ℕ, _+_, _-_, _≤_, _<_}
 use mathlib.Core.Path.{_≡_, sym, _∙_}
 use mathlib.Core.List.{_∷_}
@@ -31,8 +32,8 @@ states-left : (c : tie.In-loop Inv-loop μ-loop)
     All (λ (q : ℕ). q < 256) (number2 (drop i b) ∷ numbers (drop (i + 2) b))
 states-left c = rw (numbers-step _ _ (c .loop-test .taken)) at (c .before .loop .inv .1)
 
-with-requires : tie.Need-with-requires Inv-loop μ-loop
-with-requires c κs = rw (c .number2 .ensures) (all-first (states-left (c .before)))
+cast-with : tie.Need-cast-with Inv-loop μ-loop
+cast-with c = omega (arith, c .number2 .ensures, all-first (states-left (c .before)))
 
 loop-again : tie.Need-loop-again Inv-loop μ-loop
 unfolding withAll
@@ -58,8 +59,8 @@ set-of-spec =
     loop-holds
     (λ c. search needs)
     (λ c κs. search needs)
-    (λ c. search needs)
-    with-requires
+    cast-with
+    (λ c κs. search needs)
     (λ c. search needs)
     (λ c. search needs)
     loop-again

@@ -22,7 +22,7 @@ within : (c : tie.After-known-told)
 within c = opened-within _ _ _ (is-record c)
 
 returns : tie.Need-returns
-returns c = none-opens _ _ (c .before .before .open .ensures) (c .before .match .keys2) .0
+returns c = none-opens _ _ (c .before .before .open .ensures) (c .before .match .keys2)
 
 returns-2 : tie.Need-returns-2
 returns-2 c = sym (body-within _ (is-record (c .before)))

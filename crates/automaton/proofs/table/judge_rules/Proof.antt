@@ -1,14 +1,14 @@
 -- `automaton::table::judge_rules` meets its contract: what is left is judged as the whole is.
 use borrow.Author.Needs.{needs}
 use native.Mathlib.Omega.{arith}
-use mathlib.Core.Path.{_≡_, sym, _∙_}
+use mathlib.Core.Path.{_≡_, sym, ap, _∙_}
 use denote.Ref.{now}
 use Rattle.automaton.specs.Read.{found}
 use Rattle.automaton.specs.Table.{judgeRules}
 use Rattle.automaton.specs.Inner.{passing, placeOf, verdictOf}
 use Rattle.automaton.proofs.Scanning.{part-to-end}
 use Rattle.automaton.proofs.Answered.{told}
-use Rattle.automaton.proofs.Judging.{nextRule, next-within, rules-refused, rules-next, rules-end}
+use Rattle.automaton.proofs.Judging.{passing-map, nextRule, next-found, rules-refused, rules-next, rules-end}
 use Rattle.automaton.proofs.table.judge_rules.Statement.{statement}
 use Rattle.automaton.proofs.table.judge_rules.Tie as tie
 
@@ -19,13 +19,13 @@ abbrev μ-loop : tie.MeasureT-loop
 μ-loop t n ranks k rest₀ left₀ rest left = left
 
 returns : tie.Need-returns Inv-loop μ-loop
-unfolding placeOf verdictOf
+unfolding placeOf verdictOf passing
 returns c =
     let l = c .before .before .before .before .before .loop in
     sym
     (l .inv
-    ∙ rules-refused _ _ _ (l .left) (c .before .before .before .before .loop-test .taken)
-    (told placeOf (c .before .before .before .next-rule .ensures) (c .before .cause .given .1)))
+    ∙ ap passing (rules-refused _ _ _ (l .left) (c .before .before .before .before .loop-test .taken)
+    (told placeOf (c .before .before .before .next-rule .ensures) (c .before .cause .given .1))))
 
 next-is : (c : tie.After-known-told2 Inv-loop μ-loop)
     → let a = c .before .before .before .before .before .before .before .before .args in
@@ -35,12 +35,13 @@ unfolding placeOf
 next-is c = told placeOf (c .before .before .before .next-rule .ensures) (c .before .end .given .1)
 
 part-rest-start : tie.Need-part-rest-start Inv-loop μ-loop
-part-rest-start c = next-within _ _ _ (next-is c)
+part-rest-start c = next-found _ _ _ (next-is c) .stop
 
 loop-again : tie.Need-loop-again Inv-loop μ-loop
 loop-again c =
     let l = c .before .before .before .before .before .before .loop in
-    rw part-to-end (l .inv ∙ rules-next _ _ _ (l .left) (c .before .before .before .before .before .loop-test .taken) (next-is (c .before)))
+    let t = c .before .before .before .before .before .loop-test .taken in
+    rw part-to-end (l .inv ∙ ap passing (rules-next _ _ _ (l .left) t (next-is (c .before))) ∙ passing-map _ _)
 
 returns-2 : tie.Need-returns-2 Inv-loop μ-loop
 returns-2 c =

@@ -9,7 +9,7 @@ use Rattle.automaton.proofs.writing.put_ranks.Tie as tie
 
 returns : tie.Need-returns
 returns c =
-    let head = c .before .before .before .before .before .before .before in
+    let head = c .before .before .before .before .before .before in
     over-record _ _ _ _ _ _ _ (head .put-head .ensures) (c .before .before .put-bytes .ensures)
     (sym (length-take-le _ _ (omega arith))) (omega arith)
 

@@ -1,56 +1,69 @@
--- A head and then the fields of the row, as many as the symbol's rank says.
+-- A head, the symbol, the target and then the children.
 use Prim.Native.Nat.{_+_, _*_, _≤_}
-use mathlib.Core.Path.{_≡_, sym}
+use mathlib.Core.Path.{ap}
 use native.Mathlib.Omega.{arith}
 use lib.ListN.{length}
 use borrow.Author.Needs.{needs}
-use Rattle.automaton.specs.Table.{encodeRule}
-use Rattle.automaton.specs.Decoded.{ruleAt}
-use Rattle.automaton.proofs.WrittenBytes.{over-record, room-for-head}
-use Rattle.automaton.proofs.WrittenBytes.{rankAt, encodeRule-row, length-rowFields, length-rule}
+use Rattle.automaton.specs.Row.{ruleAt}
+use Rattle.automaton.proofs.WrittenBytes.{over-rule, length-rule}
+use Rattle.automaton.proofs.Rowing.{children-few}
 use Rattle.automaton.proofs.writing.put_rule.Statement.{statement}
 use Rattle.automaton.proofs.writing.put_rule.Tie as tie
 
-put-head-requires : tie.Need-put-head-requires
-put-head-requires c κs =
-    let args = c .before .before .before .before .args in
-    omega (arith, room-for-head (ruleAt (args .ranks .now) (args .rows .now) (args .i)))
+abbrev start : tie.After-children-of → tie.Start
+start c = c .before .before .before
 
--- Where the rows are lent as a slice, their number is known.
-abbrev start : tie.After-put-fields-arg2 → tie.Start
-start c = c .before .before .before .before .before .before .before .before .before
+-- The children are those of the rule, at most eight, and there is room for the record.
+few : (c : tie.After-children-of) → length (c .children-of .result .now) ≤ 8
+few c = rw (c .children-of .ensures) (children-few (start c .pre .0))
 
-inside : (c : tie.After-put-fields-arg2) → 10 * start c .args .i + 10 ≤ length (start c .args .rows .now)
-inside c = omega arith
-
-length-here : (c : tie.After-put-fields-arg2)
-    → length (encodeRule (ruleAt (start c .args .ranks .now) (start c .args .rows .now) (start c .args .i)))
-    ≡ 10 + 2 * rankAt (start c .args .ranks .now) (start c .args .rows .now) (start c .args .i)
-length-here c =
+fits : (c : tie.After-children-of) → start c .args .at + (10 + 2 * length (c .children-of .result .now)) ≤ length (start c .args .out .now)
+fits c =
     let args = start c .args in
-    length-rule (args .ranks .now) (args .rows .now) (args .i) (inside c) (start c .pre .1 .0 .rank)
+    omega (arith, ap length (c .children-of .ensures), length-rule (ruleAt (args .rows .now) (args .i)))
 
-put-fields-requires : tie.Need-put-fields-requires
-put-fields-requires c κs = omega (arith, length-here c)
+put-head-requires : tie.Need-put-head-requires
+put-head-requires c κs = omega (arith, few (c .before), fits (c .before))
+
+abbrev after-head : tie.After-put2-arg → tie.After-children-of
+after-head c = c .before .before .before .before .before
+
+abbrev after-symbol : tie.After-put2-arg2 → tie.After-put2-arg
+after-symbol c = c .before .before .before .before .before
+
+abbrev after-target : tie.After-put-fields-arg → tie.After-put2-arg2
+after-target c = c .before .before .before .before .before
+
+abbrev at-fields : tie.After-put-fields-arg → tie.After-children-of
+at-fields c = after-head (after-symbol (after-target c))
+
+abbrev at-end : tie.After-slice-known5 → tie.After-put-fields-arg
+at-end c = c .before .before .before
 
 returns : tie.Need-returns
 returns c =
-    let there = c .before .before .before in
+    let fields = at-end c in
+    let target = after-target fields in
+    let symbol = after-symbol target in
+    let there = after-head symbol in
     let args = start there .args in
-    let small = start there .pre .1 .0 .rank in (
-      omega (arith, length-here there),
-      rw (encodeRule-row _ _ _ (inside there))
-          (over-record _ _ _ _ _ _ _ (there .before .before .before .before .put-head .ensures)
-          (c .before .before .put-fields .ensures)
-          (sym (length-rowFields (args .ranks .now) (args .rows .now) (args .i) (inside there) small))
-          (omega (arith, length-here there))),
+    let u = ruleAt (args .rows .now) (args .i) in (
+      omega (arith, ap length (there .children-of .ensures), length-rule u),
+      over-rule u _ _ (start there .pre .1) _ _ _ (target .before .before .before .before .symbol-of .ensures)
+          (fields .before .before .before .before .target-of .ensures) (there .children-of .ensures) _ _ _ _
+          (symbol .before .before .before .put-head .ensures) (target .before .before .before .put2 .ensures)
+          (fields .before .before .before .put22 .ensures) (c .before .before .put-fields .ensures),
     )
 
 pub put-rule-spec : {M : Type 1} → statement M
 put-rule-spec =
     tie.close
-    (tie.spec (λ c. search needs) (λ c. search needs) (λ c. search needs) (λ c. search needs)
-    (λ c. search needs) (λ c. search needs) (λ c. search needs) (λ c. search needs)
-    put-head-requires (λ c. search needs) (λ c. search needs) (λ c. search needs) put-fields-requires
-    (λ c. omega (arith, length-here (c .before .before .before))) (λ c. search needs)
-    (λ c. omega (arith, length-here (c .before .before .before))) (λ c. search needs) returns)
+    (tie.spec (λ c κs. search needs) (λ c. omega (arith, few (c .before))) (λ c. omega (arith, few (c .before))) put-head-requires
+    (λ c. omega (arith, fits (after-head c)))
+    (λ c κs. search needs) (λ c. search needs) (λ c κs. omega (arith, fits (after-head (c .before))))
+    (λ c. omega (arith, fits (after-head (after-symbol c)))) (λ c κs. search needs) (λ c. search needs)
+    (λ c κs. omega (arith, fits (after-head (after-symbol (c .before)))))
+    (λ c. omega (arith, fits (at-fields c))) (λ c κs. omega (arith, fits (at-fields c)))
+    (λ c. omega (arith, fits (at-fields (at-end c))))
+    (λ c. omega (arith, few (at-fields (at-end c)))) (λ c. omega (arith, fits (at-fields (at-end c))))
+    (λ c. search needs) returns)

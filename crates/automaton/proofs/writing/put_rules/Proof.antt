@@ -6,56 +6,53 @@ use lib.ListN.{length}
 use borrow.Author.Needs.{needs}
 use Rattle.automaton.specs.Lists.{from}
 use Rattle.automaton.specs.Table.{encodeRules}
-use Rattle.automaton.specs.Decoded.{ruleAt}
+use Rattle.automaton.specs.Row.{rulesIn}
 use Rattle.automaton.specs.Inner.{over}
 use Rattle.automaton.proofs.WrittenBytes.{over-nil, length-step, room-for-step, over-step, rules}
 use Rattle.automaton.proofs.writing.put_rules.Statement.{statement}
 use Rattle.automaton.proofs.writing.put_rules.Tie as tie
 
 abbrev Inv-loop : tie.InvT-loop
-Inv-loop out₀ at ranks rows k next₀ i₀ out next i =
-    let bytes = rules (ruleAt ranks rows) .upto i in
+Inv-loop out₀ at rows k next₀ i₀ out next i =
+    let bytes = rules rows .upto i in
     (i ≤ k) × (length out ≡ length out₀) × (next ≡ at + length bytes) × (out ≡ over out₀ at bytes)
 
 abbrev μ-loop : tie.MeasureT-loop
-μ-loop out₀ at ranks rows k next₀ i₀ out next i = k - i
+μ-loop out₀ at rows k next₀ i₀ out next i = k - i
 
 loop-holds : tie.Need-loop-holds Inv-loop μ-loop
-unfolding encodeRules from
+unfolding encodeRules rulesIn from
 loop-holds c = (search needs, search needs, search needs, over-nil _ _)
 
 put-rule-requires : tie.Need-put-rule-requires Inv-loop μ-loop
 put-rule-requires c κs =
-    let start = c .before .before .before .before in
+    let start = c .before .before .before .before .before in
     let args = start .args in
     let i = c .before .before .loop .i in (
-      search needs,
-      (
-        start .pre .1 .0 i (c .before .loop-test .taken),
-        omega (
-          arith,
-          room-for-step (rules (ruleAt (args .ranks .now) (args .rows .now))) (args .at)
-              (length (args .out .now)) i (args .k) (omega arith) (omega arith),
-        ),
+      start .pre .0 .row i (c .before .loop-test .taken),
+      omega (
+        arith,
+        room-for-step (rules (args .rows .now)) (args .at) (length (args .out .now)) i (args .k) (omega arith) (start .pre .1),
       ),
     )
 
 loop-again : tie.Need-loop-again Inv-loop μ-loop
 loop-again c =
     let turn = c .before .before .before .before .before in
-    let args = turn .before .before .args in
-    let run = rules (ruleAt (args .ranks .now) (args .rows .now)) in
+    let start = turn .before .before .before in
+    let args = start .args in
+    let run = rules (args .rows .now) in
     let call = c .before .before .put-rule in (
       search needs,
       search needs,
       omega (arith, length-step run (turn .loop .i)),
-      over-step run _ _ (turn .loop .i) (args .k) (omega arith) (omega arith) _ _ _
+      over-step run _ _ (turn .loop .i) (args .k) (omega arith) (start .pre .1) _ _ _
           (turn .loop .inv .3) (call .ensures .1) (turn .loop .inv .2),
     )
 
 returns : tie.Need-returns Inv-loop μ-loop
 returns c =
-    let all : c .before .loop .i ≡ c .before .before .before .args .k = omega arith in
+    let all : c .before .loop .i ≡ c .before .before .before .before .args .k = omega arith in
     rw (← all) (c .before .loop .inv .3)
 
 pub put-rules-spec : {M : Type 1} → statement M

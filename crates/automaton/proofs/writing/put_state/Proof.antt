@@ -25,7 +25,7 @@ in-set c = keep-in _ _ (sym (c .before .has .ensures) ∙ not-false _ (c .if1 .l
 
 put2-requires : tie.Need-put2-requires
 unfolding fields bytes2
-put2-requires c κs = rw (in-set (c .before)) at (start (c .before) .pre .1)
+put2-requires c κs = rw (in-set (c .before)) at (start (c .before) .pre)
 
 returns-2 : tie.Need-returns-2
 unfolding fields bytes2
@@ -34,5 +34,5 @@ returns-2 c = rw (in-set (c .before .before .before .before)) (refl, c .before .
 pub put-state-spec : {M : Type 1} → statement M
 put-state-spec =
     tie.close
-    (tie.spec (λ c κs. search needs) returns (λ c. search needs) put2-requires (λ c. search needs)
+    (tie.spec (λ c κs. search needs) returns put2-requires (λ c. search needs)
     (λ c. search needs) returns-2)

@@ -26,13 +26,11 @@ loop-holds c = (search needs, search needs, search needs, over-nil _ _)
 
 put-state-requires : tie.Need-put-state-requires Inv-loop μ-loop
 put-state-requires c κs =
-    let args = c .before .before .before .before .args in (
-      search needs,
-      omega (
-        arith,
-        room-for-step (states (member (args .set .words))) (args .at) (length (args .out .now))
-            (c .before .before .loop .q) (args .n) (omega arith) (omega arith),
-      ),
+    let args = c .before .before .before .before .args in
+    omega (
+      arith,
+      room-for-step (states (member (args .set .words))) (args .at) (length (args .out .now))
+          (c .before .before .loop .q) (args .n) (omega arith) (omega arith),
     )
 
 loop-again : tie.Need-loop-again Inv-loop μ-loop
@@ -56,5 +54,5 @@ returns c =
 pub put-states-spec : {M : Type 1} → statement M
 put-states-spec =
     tie.close
-    (tie.spec Inv-loop μ-loop loop-holds put-state-requires (λ c. search needs) (λ c. search needs) loop-again
+    (tie.spec Inv-loop μ-loop loop-holds (λ c. search needs) put-state-requires (λ c. search needs) (λ c. search needs) loop-again
     (λ c. search needs) returns)

@@ -1,54 +1,47 @@
 -- After i turns the bytes of i rules are counted, at most 26 each.
 use Prim.Native.Nat.{_*_, _-_, _≤_}
-use mathlib.Core.Path.{_≡_}
+use mathlib.Core.Path.{_≡_, ap}
 use native.Mathlib.Omega.{arith}
 use lib.ListN.{length}
 use borrow.Author.Needs.{needs}
 use Rattle.automaton.specs.Lists.{from}
 use Rattle.automaton.specs.Table.{encodeRules}
-use Rattle.automaton.specs.Decoded.{ruleAt}
-use Rattle.automaton.specs.Inner.{RowFits}
+use Rattle.automaton.specs.Row.{ruleAt, rulesIn, Row}
 use Rattle.automaton.proofs.WrittenBytes.{length-step, rules, length-rule}
+use Rattle.automaton.proofs.Rowing.{children-few}
 use Rattle.automaton.proofs.writing.rules_length.Statement.{statement}
 use Rattle.automaton.proofs.writing.rules_length.Tie as tie
 
 abbrev Inv-loop : tie.InvT-loop
-Inv-loop ranks rows k total₀ i₀ total i =
-    (i ≤ k) × (total ≤ 26 * i) × (total ≡ length (rules (ruleAt ranks rows) .upto i))
+Inv-loop rows k total₀ i₀ total i = (i ≤ k) × (total ≤ 26 * i) × (total ≡ length (rules rows .upto i))
 
 abbrev μ-loop : tie.MeasureT-loop
-μ-loop ranks rows k total₀ i₀ total i = k - i
+μ-loop rows k total₀ i₀ total i = k - i
 
 loop-holds : tie.Need-loop-holds Inv-loop μ-loop
-unfolding encodeRules from
+unfolding encodeRules rulesIn from
 loop-holds c = search needs
 
-row : (c : tie.In-loop Inv-loop μ-loop)
-    → RowFits (c .before .before .args .ranks .now) (c .before .before .args .rows .now) (c .before .loop .i)
-row c = c .before .before .pre .1 .1 (c .before .loop .i) (c .loop-test .taken)
+row : (c : tie.In-loop Inv-loop μ-loop) → Row (c .before .before .before .args .rows .now) (c .before .loop .i)
+row c = c .before .before .before .pre .row (c .before .loop .i) (c .loop-test .taken)
+
+-- What is added: the children are those of the rule, at most eight.
+few : (c : tie.After-children-of Inv-loop μ-loop) → length (c .children-of .result .now) ≤ 8
+few c = rw (c .children-of .ensures) (children-few (row (c .before)))
 
 loop-again : tie.Need-loop-again Inv-loop μ-loop
 loop-again c =
-    let turn = c .before .before in
-    let args = turn .before .before .args in
-    let i = turn .before .loop .i in
-    omega (
-      arith,
-      row turn,
-      length-step (rules (ruleAt (args .ranks .now) (args .rows .now))) i,
-      length-rule (args .ranks .now) (args .rows .now) i (omega arith) (row turn .rank),
-    )
+    let rows = c .before .before .before .before .args .rows .now in
+    let i = c .before .before .loop .i in
+    omega (arith, few c, ap length (c .children-of .ensures), length-step (rules rows) i, length-rule (ruleAt rows i))
 
 returns : tie.Need-returns Inv-loop μ-loop
 returns c =
-    let all : c .before .loop .i ≡ c .before .before .args .k = omega arith in
+    let all : c .before .loop .i ≡ c .before .before .before .args .k = omega arith in
     rw (← all) (c .before .loop .inv .2, c .before .loop .inv .1)
 
 pub rules-length-spec : {M : Type 1} → statement M
 rules-length-spec =
     tie.close
-    (tie.spec Inv-loop μ-loop loop-holds (λ c. search needs) (λ c. search needs) (λ c. search needs)
-    (λ c. omega (arith, row (c .before))) (λ c. omega (arith, row (c .before .before)))
-    (λ c. omega (arith, row (c .before .before))) (λ c. omega (arith, row (c .before .before)))
-    (λ c. omega (arith, row (c .before .before))) (λ c. omega (arith, row (c .before .before)))
-    (λ c. search needs) (λ c. search needs) loop-again returns)
+    (tie.spec Inv-loop μ-loop loop-holds (λ c κs. row c) (λ c. omega (arith, few c)) (λ c. omega (arith, few c))
+    (λ c. omega (arith, few c, c .before .before .before .before .pre .count)) (λ c. search needs) (λ c. search needs) loop-again returns)

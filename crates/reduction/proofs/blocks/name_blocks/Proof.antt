@@ -33,10 +33,10 @@ unfolding nameIn
 returns c =
     let l = c .before .loop in
     let all : l .q ≡ c .before .before .before .args .n = omega arith in
-    (λ q h. l .inv .2 q (omega arith) .0, λ R e q h self. l .inv .2 q (omega arith) .1 R e self)
+    (λ q h. l .inv .2 q (omega arith) .0, λ q h. l .inv .2 q (omega arith) .1)
 
 pub name-blocks-spec : {M : Type 1} → statement M
 name-blocks-spec =
     tie.close
-    (tie.spec Inv-loop μ-loop loop-holds (λ c κs. search needs) (λ c. search needs) (λ c. search needs)
-    (λ c. search needs) (λ c. search needs) (λ c. search needs) loop-again (λ c. search needs) returns)
+    (tie.spec Inv-loop μ-loop loop-holds (λ c. search needs) (λ c κs. search needs) (λ c. search needs)
+    (λ c. search needs) (λ c. search needs) loop-again (λ c. search needs) returns)

@@ -29,18 +29,6 @@ loop-holds : tie.Need-loop-holds Inv-loop μ-loop
 unfolding any keep from
 loop-holds c = (search needs, λ r h. rw (c .empty .ensures) (member-empty r h))
 
-cast-with : tie.Need-cast-with Inv-loop μ-loop
-unfolding nameIn
-cast-with c =
-    let turn = c .before .before .before .before .before .before in
-    omega (arith, turn .before .before .before .pre .1 (turn .loop .q) (omega arith))
-
-with-requires : tie.Need-with-requires Inv-loop μ-loop
-unfolding nameIn
-with-requires c κs =
-    let turn = c .before .before .before .before .before .before in
-    turn .before .before .before .pre .1 (turn .loop .q) (omega arith)
-
 loop-again : tie.Need-loop-again Inv-loop μ-loop
 unfolding nameIn
 loop-again c =
@@ -69,6 +57,6 @@ returns c =
 pub rename-set-spec : {M : Type 1} → statement M
 rename-set-spec =
     tie.close
-    (tie.spec Inv-loop μ-loop (λ c κs. search needs) loop-holds (λ c κs. search needs) (λ c κs. search needs)
-    (λ c. search needs) (λ c. search needs) cast-with with-requires (λ c. search needs) (λ c. search needs) loop-again
-    returns)
+    (tie.spec Inv-loop μ-loop (λ c κs. search needs) loop-holds (λ c. search needs) (λ c κs. search needs)
+    (λ c. search needs) (λ c κs. search needs) (λ c. search needs) (λ c κs. search needs) (λ c. search needs)
+    (λ c. search needs) loop-again returns)

@@ -2,11 +2,12 @@
 use Prim.Native.Nat.{_-_, _≤_}
 use mathlib.Core.Path.{_≡_, refl, sym, _∙_}
 use mathlib.Core.Logic.{⊎-elim}
+use mathlib.Core.Bool.{false}
 use native.Mathlib.Omega.{arith}
 use borrow.Author.Needs.{needs}
 use Rattle.automaton.specs.Lists.{from}
-use Rattle.simulation.specs.Simulation.{Relation, related}
-use Rattle.simulation.specs.Words.{relationWords}
+use Rattle.simulation.specs.Simulation.{related}
+use Rattle.simulation.specs.Words.{relationIn}
 use Rattle.simulation.proofs.Search.{and-true-in, and-false-left, and-false-right}
 use Rattle.reduction.specs.Steps.{equivalent, firstOf}
 use Rattle.reduction.proofs.Naming.{first-here, first-later}
@@ -14,14 +15,11 @@ use Rattle.reduction.proofs.blocks.representative.Statement.{statement}
 use Rattle.reduction.proofs.blocks.representative.Tie as tie
 
 abbrev Inv-loop : tie.InvT-loop
-Inv-loop words q r₀ r = (r ≤ q) × ((R : Relation) → words ≡ relationWords R
-    → firstOf (equivalent R q) (from 0 256) ≡ firstOf (equivalent R q) (from r (256 - r)))
+Inv-loop words q r₀ r =
+    (r ≤ q) × (firstOf (equivalent (relationIn words) q) (from 0 256) ≡ firstOf (equivalent (relationIn words) q) (from r (256 - r)))
 
 abbrev μ-loop : tie.MeasureT-loop
 μ-loop words q r₀ r = q - r
-
-loop-holds : tie.Need-loop-holds Inv-loop μ-loop
-loop-holds c = (search needs, λ R e. refl)
 
 returns : tie.Need-returns Inv-loop μ-loop
 unfolding equivalent
@@ -29,35 +27,36 @@ returns c =
     let first = c .before .before .before in
     let l = first .before .before .loop in (
       omega arith,
-      λ R e self. sym (l .inv .1 R e ∙ first-here (equivalent R _) 256 (l .r) (omega arith)
-          (and-true-in (sym (first .has-pair .ensures R e) ∙ c .before .before .if1 .taken)
-          (sym (c .before .has-pair2 .ensures R e) ∙ c .if2 .taken))),
+      λ self. sym (l .inv .1 ∙ first-here (equivalent _ _) 256 (l .r) (search needs)
+          (and-true-in (sym (first .has-pair .ensures) ∙ c .before .before .if1 .taken)
+          (sym (c .before .has-pair2 .ensures) ∙ c .if2 .taken))),
     )
 
 loop-again : tie.Need-loop-again Inv-loop μ-loop
 unfolding equivalent
 loop-again c =
     let l = c .before .before .before .loop in
-    let q = c .before .before .before .before .args .q in (
+    let a = c .before .before .before .before .args in
+    let R = relationIn (a .words .now) in (
       search needs,
-      λ R e. l .inv .1 R e ∙ first-later (equivalent R q) 256 (l .r) (omega arith)
-          (⊎-elim
-          (λ w. and-false-right (related R q (l .r)) (sym (w .1 .ensures R e) ∙ w .2 .left))
-          (λ w. and-false-left _ (sym (c .before .has-pair .ensures R e) ∙ w .left))
+      l .inv .1 ∙ first-later (equivalent R (a .q)) 256 (l .r) (search needs)
+          (⊎-elim {C = equivalent R (a .q) (l .r) ≡ false}
+          (λ w. and-false-right (related R (a .q) (l .r)) (sym (w .1 .ensures) ∙ w .2 .left))
+          (λ w. and-false-left _ (sym (c .before .has-pair .ensures) ∙ w .left))
           (c .if1 .came)),
     )
 
 returns-2 : tie.Need-returns-2 Inv-loop μ-loop
 returns-2 c =
     let l = c .before .loop in
-    let s = c .before .before in
-    let all : l .r ≡ s .args .q = omega arith in (
+    let q = c .before .before .args .q in
+    let all : l .r ≡ q = omega arith in (
       omega arith,
-      λ R e self. sym (rw all at (l .inv .1 R e) ∙ first-here (equivalent R _) 256 (s .args .q) (s .pre) self),
+      λ self. sym (rw all at (l .inv .1) ∙ first-here (equivalent _ q) 256 q (search needs) self),
     )
 
 pub representative-spec : {M : Type 1} → statement M
 representative-spec =
     tie.close
-    (tie.spec Inv-loop μ-loop loop-holds (λ c κs. search needs) (λ c κs. search needs) returns (λ c. search needs)
+    (tie.spec Inv-loop μ-loop (λ c. (search needs, refl)) (λ c κs. search needs) (λ c κs. search needs) returns (λ c. search needs)
     (λ c. search needs) loop-again returns-2)

@@ -1,41 +1,28 @@
--- `reduction::growth::with_children` meets its contract, by cases.
+-- By cases.
 use borrow.Author.Needs.{needs}
 use borrow.Author.Tests.{not-true, not-false}
-use native.Mathlib.Omega.{arith}
-use mathlib.Core.Path.{_≡_, refl, sym, _∙_}
-use lib.ListN.{length}
-use Rattle.automaton.specs.Decoded.{ruleAt}
-use Rattle.simulation.proofs.Ranged.{target-low}
-use Rattle.simulation.proofs.Queries.{ranged-children}
+use mathlib.Core.Path.{_≡_, sym, _∙_}
+use Rattle.automaton.specs.StateSet.{member}
+use Rattle.automaton.specs.Row.{ruleAt}
 use Rattle.reduction.proofs.Passes.{children-out}
 use Rattle.reduction.proofs.growth.with_children.Statement.{statement}
 use Rattle.reduction.proofs.growth.with_children.Tie as tie
 
-has-requires : tie.Need-has-requires
-has-requires c κs = target-low _ _ _ (c .before .pre .1)
+tested : (c : tie.After-has)
+    → let a = c .before .before .before .args in
+    member (a .set .words) (ruleAt (a .rows .now) (a .i) .target) ≡ c .has .result
+tested c = rw (← c .before .target-of .ensures) (sym (c .has .ensures))
 
 returns : tie.Need-returns
-unfolding ruleAt
-returns c = let h = c .before .has in children-out _ _ (sym (h .ensures) ∙ not-true (h .result) (c .if1 .taken))
-
-with-states-requires : tie.Need-with-states-requires
-with-states-requires c κs =
-    let s = c .before .before .before .before .before .before in
-    let rank = s .pre .1 .rank in
-    let long : length (s .args .rows .now) ≡ 10240 = c .with-states-arg .given .0 in
-    (omega arith, ranged-children (s .pre .1) _ refl)
+returns c = children-out _ _ (tested (c .before) ∙ not-true _ (c .if1 .taken))
 
 returns-2 : tie.Need-returns-2
-unfolding ruleAt
 returns-2 c =
-    let e = c .before .before .before .before in
-    let h = e .before .has in
-    λ q l. c .with-states .ensures q l ∙ rw (← h .ensures, not-false (h .result) (e .if1 .left))
+    let e = c .before .before in
+    rw (tested (e .before) ∙ not-false _ (e .if1 .left), ← c .before .children-of .ensures) (c .with-states .ensures)
 
 pub with-children-spec : {M : Type 1} → statement M
 with-children-spec =
     tie.close
-    (tie.spec (λ c. search needs) (λ c. search needs) (λ c. search needs) (λ c. search needs)
-    (λ c. omega (arith, target-low _ _ _ (c .before .pre .1))) has-requires returns (λ c. search needs) (λ c. search needs)
-    (λ c. search needs) (λ c. search needs) (λ c. search needs) (λ c. search needs) (λ c. search needs)
-    (λ c. search needs) with-states-requires returns-2)
+    (tie.spec (λ c κs. c .before .pre) (λ c κs. search needs) returns (λ c κs. c .before .before .before .before .pre)
+    (λ c κs. search needs) returns-2)

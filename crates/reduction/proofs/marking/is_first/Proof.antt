@@ -1,80 +1,60 @@
--- `reduction::marking::is_first` meets its contract: the first equal rule along the chain of the target is the first of all.
+-- The first equal rule among those of the target is the first of all.
 use borrow.Author.Needs.{needs}
+use native.Mathlib.Numerals.{add-one}
 use native.Mathlib.Omega.{arith}
-use Prim.Native.Nat.{_+_, _*_, _<_}
+use Prim.Native.Nat.{suc, _-_, _<_}
 use mathlib.Core.Path.{sym, _∙_}
-use lib.ListN.{getD}
-use Rattle.simulation.proofs.Ranged.{target-low}
-use Rattle.simulation.proofs.Walks.{linksLeft, Turn, turn, walk-less, walk-low}
-use Rattle.reduction.proofs.Marks.{Alike, Seeking, seeking-all, seeking-next, seeking-found, seeking-none}
+use mathlib.Core.List.{_∷_}
+use lib.ListN.{length, drop, getD, drop-of-length-le}
+use lib.Seq.{drop-cons}
+use Rattle.reduction.proofs.Marks.{alike-low, Seeking, seeking-all, seeking-next, seeking-found, seeking-none}
 use Rattle.reduction.proofs.marking.is_first.Statement.{statement}
 use Rattle.reduction.proofs.marking.is_first.Tie as tie
 
 abbrev Inv-loop : tie.InvT-loop
-Inv-loop k ranks rows head next i target link₀ link = Seeking ranks rows k i next link
+Inv-loop rows numbers i j₀ j = Seeking rows i (drop j numbers)
 
 abbrev μ-loop : tie.MeasureT-loop
-μ-loop k ranks rows head next i target link₀ link = linksLeft next 1024 link
+μ-loop rows numbers i j₀ j = length numbers - j
 
-low : (c : tie.Start Inv-loop μ-loop) → getD (c .args .rows .now) (10 * c .args .i + 1) 0 < 256
-low c = target-low _ _ (c .args .i) (c .pre .1 .0 (c .args .i) (c .pre .0 .1))
+abbrev start : tie.In-loop Inv-loop μ-loop → tie.Start Inv-loop μ-loop
+start c = c .before .before .before .before
 
-started : (c : tie.Start Inv-loop μ-loop)
-    → let a = c .args in
-    Seeking (a .ranks .now) (a .rows .now) (a .k) (a .i) (a .next .now) (getD (a .head .now) (getD (a .rows .now) (10 * a .i + 1) 0) 0)
-started c = seeking-all _ _ _ _ _ _ (c .pre .0 .0) (low c) (c .pre .1 .1)
+low : (c : tie.In-loop Inv-loop μ-loop) → getD (start c .args .numbers .now) (c .before .loop .j) 0 < start c .pre .0
+low c = let s = start c in alike-low (s .args .rows .now) _ _ _ (s .pre .1 .1 .1) (c .before .loop .j) (c .loop-test .taken)
 
-turned : (c : tie.In-loop Inv-loop μ-loop)
-    → let a = c .before .before .before .before .args in
-    let l = c .before .loop in
-    Turn (a .next .now) (Alike (a .ranks .now) (a .rows .now) (a .k) (a .i)) (l .link) (l .inv .walk .rest)
-turned c = turn _ _ _ (c .before .loop .inv .walk) (c .loop-test .taken)
+left : (c : tie.In-loop Inv-loop μ-loop)
+    → let s = start c in
+    let j = c .before .loop .j in
+    Seeking (s .args .rows .now) (s .args .i) (getD (s .args .numbers .now) j 0 ∷ drop (suc j) (s .args .numbers .now))
+left c = rw (drop-cons (start c .args .numbers .now) (c .before .loop .j) 0 (c .loop-test .taken)) at (c .before .loop .inv)
 
 same-rule-requires : tie.Need-same-rule-requires Inv-loop μ-loop
 same-rule-requires c κs =
-    let s = c .before .before .before .before in
-    let few = s .pre .0 .0 in
-    let first = turned c .first .0 in
-    ((omega arith, omega arith), (s .pre .1 .0 _ first, s .pre .1 .0 _ (s .pre .0 .1)))
+    let t = c .before in
+    let p = start t .pre in
+    (p .1 .1 .0 .row _ (low t), p .1 .1 .0 .row _ (p .1 .0))
 
 returns : tie.Need-returns Inv-loop μ-loop
 returns c =
-    let i = c .before .before in
-    let s = i .before .before .before .before in
-    seeking-found _ _ _ _ _ _ (i .before .loop .inv) (s .pre .0 .1) (i .loop-test .taken)
-    (sym (c .before .same-rule .ensures) ∙ c .if1 .taken)
+    let t = c .before .before .before in
+    seeking-found _ _ (left t) (sym (c .before .same-rule .ensures) ∙ c .if1 .taken)
 
 loop-again : tie.Need-loop-again Inv-loop μ-loop
 loop-again c =
-    let b = c .before .before in
-    let i = b .before in
-    seeking-next _ _ _ _ _ _ (i .before .loop .inv) (i .loop-test .taken) (sym (b .same-rule .ensures) ∙ c .before .if1 .left)
+    let t = c .before .before .before in
+    rw add-one (seeking-next _ _ (left t) (sym (c .before .same-rule .ensures) ∙ c .if1 .left))
 
 returns-2 : tie.Need-returns-2 Inv-loop μ-loop
 returns-2 c =
-    absurd (seeking-none _ _ _ _ _ _ (c .before .loop .inv) (c .before .before .before .before .pre .0 .1) (omega arith))
+    let l = c .before .loop in
+    let a = c .before .before .before .before .args in
+    absurd (seeking-none _ _ (rw (drop-of-length-le (a .numbers .now) {i = l .j} (c .loop-test .left)) at (l .inv)))
 
 pub is-first-spec : {M : Type 1} → statement M
 is-first-spec =
     tie.close
-    (tie.spec
-    Inv-loop
-    μ-loop
-    (λ c. search needs)
-    (λ c. search needs)
-    (λ c. search needs)
-    (λ c. search needs)
-    (λ c. omega (arith, low (c .before)))
-    (λ c. omega (arith, low (c .before)))
-    (λ c. omega (arith, low (c .before)))
-    (λ c. omega (arith, c .before .before .pre .0 .0, walk-low _ _ _ _ (started (c .before .before) .walk) (λ j h. h .0)))
-    (λ c. started (c .before .before))
-    (λ c. search needs)
-    same-rule-requires
-    returns
-    (λ c. omega (arith, turned (c .before .before) .first .0, c .before .before .before .before .before .before .pre .0 .0))
-    (λ c. omega (arith, turned (c .before .before) .first .0, c .before .before .before .before .before .before .pre .0 .0))
-    (λ c. omega (arith, walk-low _ _ _ _ (turned (c .before .before .before) .walk) (λ j h. h .0)))
-    (λ c. walk-less _ _ _ (c .before .before .before .before .loop .inv .walk) (c .before .before .before .loop-test .taken))
-    loop-again
-    returns-2)
+    (tie.spec Inv-loop μ-loop
+    (λ c. let s = c .before .before in rw (s .pre .1 .1 .1) (seeking-all _ _ (s .pre .0) (s .pre .1 .0)))
+    (λ c. search needs) (λ c. search needs) (λ c. omega (arith, low (c .before), start (c .before) .pre .1 .1 .0 .count))
+    same-rule-requires returns (λ c. search needs) (λ c. search needs) loop-again returns-2)

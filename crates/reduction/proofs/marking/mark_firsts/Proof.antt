@@ -1,68 +1,64 @@
--- `reduction::marking::mark_firsts` meets its contract: the rules below the index are marked.
+-- The rules below the index are marked, each by the numbers of its target.
 use borrow.Author.Needs.{needs}
 use native.Mathlib.Omega.{arith}
-use Prim.Native.Nat.{ℕ, _-_, _≤_, _<_}
-use mathlib.Core.Path.{_≡_, refl}
-use mathlib.Core.List.{List}
-use mathlib.Core.Bool.{Bool, false}
-use lib.ListN.{length, getD, length-set}
-use Rattle.simulation.proofs.Rows.{filled-more}
-use Rattle.simulation.proofs.Ranged.{target-low}
-use Rattle.reduction.specs.Inner.{marked, isFirst}
+use Prim.Native.Nat.{_-_}
+use mathlib.Core.Path.{ap, _∙_}
+use Rattle.simulation.specs.Index.{keyOf, numbersOf}
+use Rattle.reduction.specs.Inner.{isFirst}
+use Rattle.reduction.proofs.Marks.{Marking, marking-none, marking-next, marking-all}
 use Rattle.reduction.proofs.marking.mark_firsts.Statement.{statement}
 use Rattle.reduction.proofs.marking.mark_firsts.Tie as tie
 
-abbrev First : List ℕ → List ℕ → ℕ → Bool → Type 0
-First ranks rows j t = t ≡ isFirst ranks rows j
-
 abbrev Inv-loop : tie.InvT-loop
-Inv-loop k ranks rows marks₀ head next i₀ marks i =
-    (i ≤ k) × (length marks ≡ length marks₀) × ((j : ℕ) → j < i → First ranks rows j (getD marks j false))
+Inv-loop rows k n marks₀ index i₀ marks i = Marking (isFirst rows) k marks₀ marks i
 
 abbrev μ-loop : tie.MeasureT-loop
-μ-loop k ranks rows marks₀ head next i₀ marks i = k - i
+μ-loop rows k n marks₀ index i₀ marks i = k - i
 
-chain-rules-requires : tie.Need-chain-rules-requires Inv-loop μ-loop
-chain-rules-requires c κs =
-    let a = c .before .before in
-    let s = a .before .before in
-    let few = s .pre .0 .0 in
-    let long : length (s .args .rows .now) ≡ 10240 = a .chain-rules-arg .given .0 in
-    ((few, (omega arith, omega arith)), ((λ i h. target-low _ _ i (s .pre .1 i h)), (omega arith, few)))
+abbrev indexed : tie.In-loop Inv-loop μ-loop → tie.After-index-rules Inv-loop μ-loop
+indexed t = t .before .before .before
 
-loop-holds : tie.Need-loop-holds Inv-loop μ-loop
-loop-holds c = (search needs, refl, λ j h. absurd (omega arith))
+abbrev start : tie.In-loop Inv-loop μ-loop → tie.Start Inv-loop μ-loop
+start t = indexed t .before .before .before .before
 
-abbrev chained : tie.In-loop Inv-loop μ-loop → tie.After-chain-rules Inv-loop μ-loop
-chained i = i .before .before .before .before
+index-rules-requires : tie.Need-index-rules-requires Inv-loop μ-loop
+unfolding keyOf
+index-rules-requires c κs =
+    let s = c .before .before .before in
+    ((s .pre .0 .0, (s .pre .1 .0, omega (arith, s .pre .0 .0 .count))), s .pre .1 .1)
 
-abbrev start : tie.After-chain-rules Inv-loop μ-loop → tie.Start Inv-loop μ-loop
-start r = r .before .before .before .before .before
+rules-of-requires : tie.Need-rules-of-requires Inv-loop μ-loop
+rules-of-requires c κs =
+    let t = c .before .before in
+    indexed t .index-rules .ensures .part _ (rw (c .target-of .ensures) (start t .pre .1 .1 _ (t .loop-test .taken)))
 
 is-first-requires : tie.Need-is-first-requires Inv-loop μ-loop
+unfolding keyOf
 is-first-requires c κs =
-    let i = c .before .before in
-    let r = chained i in
-    let s = start r in
-    ((s .pre .0 .0, i .loop-test .taken), (s .pre .1, r .chain-rules .ensures))
+    let b = c .before in
+    let t = b .before .before in
+    let s = start t in (
+      s .args .k,
+      (
+        t .loop-test .taken,
+        (
+          s .pre .0 .0,
+          c .rules-of .ensures ∙ ap (numbersOf _) (b .target-of .ensures)
+              ∙ indexed t .index-rules .ensures .numbers _ (s .pre .1 .1 _ (t .loop-test .taken)),
+        ),
+      ),
+    )
 
 loop-again : tie.Need-loop-again Inv-loop μ-loop
 loop-again c =
-    let i = c .before .before .before in
-    let l = i .before .loop in
-    let a = start (chained i) .args in (
-      search needs,
-      simp length-set (l .inv .1),
-      filled-more (First (a .ranks .now) (a .rows .now)) false (l .marks) (l .i) (c .is-first .result) (omega arith)
-          (l .inv .2) (c .is-first .ensures),
-    )
-
-returns : tie.Need-returns Inv-loop μ-loop
-unfolding marked
-returns c = λ i h. c .before .loop .inv .2 i (omega arith)
+    let t = c .before .before .before .before in
+    marking-next (t .before .loop .inv) (t .loop-test .taken) (start t .pre .0 .1) (c .is-first .result) (c .is-first .ensures)
 
 pub mark-firsts-spec : {M : Type 1} → statement M
 mark-firsts-spec =
     tie.close
-    (tie.spec Inv-loop μ-loop (λ c. search needs) (λ c. search needs) chain-rules-requires loop-holds is-first-requires
-    (λ c. omega arith) (λ c. search needs) (λ c. search needs) loop-again (λ c. c .before .loop .inv .1) returns)
+    (tie.spec Inv-loop μ-loop (λ c. search needs) index-rules-requires (λ c. marking-none _ _ _) (λ c. search needs)
+    (λ c κs. start (c .before) .pre .0 .0 .row _ (c .before .loop-test .taken)) (λ c. search needs) rules-of-requires is-first-requires
+    (λ c. let t = c .before .before .before .before in omega (arith, t .before .loop .inv .as-long, start t .pre .0 .1)) (λ c. search needs)
+    (λ c. search needs) loop-again (λ c. c .before .loop .inv .as-long)
+    (λ c. marking-all (c .before .loop .inv) (c .loop-test .left)))

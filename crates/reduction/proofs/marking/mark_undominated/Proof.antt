@@ -1,73 +1,71 @@
--- `reduction::marking::mark_undominated` meets its contract: the rules below the index are marked.
+-- The rules below the index are marked, each by the numbers of its target.
 use borrow.Author.Needs.{needs}
 use native.Mathlib.Omega.{arith}
-use Prim.Native.Nat.{ℕ, _-_, _≤_, _<_}
-use mathlib.Core.Path.{_≡_, refl}
-use mathlib.Core.List.{List}
-use mathlib.Core.Bool.{Bool, false, not}
-use lib.ListN.{length, getD, length-set}
-use Rattle.automaton.specs.Decoded.{ruleAt}
-use Rattle.simulation.specs.Simulation.{Relation}
-use Rattle.simulation.specs.Words.{rulesIn, relationWords}
-use Rattle.simulation.proofs.Rows.{filled-more}
-use Rattle.simulation.proofs.Ranged.{target-low}
+use Prim.Native.Nat.{ℕ, _-_}
+use mathlib.Core.Path.{_≡_, ap, _∙_}
+use mathlib.Core.Bool.{not}
+use Rattle.automaton.specs.Row.{ruleAt, rulesIn}
+use Rattle.simulation.specs.Words.{relationIn}
+use Rattle.simulation.specs.Index.{keyOf, numbersOf}
 use Rattle.reduction.specs.Steps.{dominated}
-use Rattle.reduction.specs.Inner.{marked}
+use Rattle.reduction.proofs.Marks.{alike, Marking, marking-none, marking-next, marking-all}
 use Rattle.reduction.proofs.marking.mark_undominated.Statement.{statement}
 use Rattle.reduction.proofs.marking.mark_undominated.Tie as tie
 
-abbrev Undominated : List ℕ → List ℕ → List ℕ → ℕ → ℕ → Bool → Type 0
-Undominated words ranks rows k j t =
-    (R : Relation) → words ≡ relationWords R → t ≡ not (dominated R (rulesIn ranks rows k) (ruleAt ranks rows j))
-
 abbrev Inv-loop : tie.InvT-loop
-Inv-loop words k ranks rows marks₀ head next i₀ marks i =
-    (i ≤ k) × (length marks ≡ length marks₀) × ((j : ℕ) → j < i → Undominated words ranks rows k j (getD marks j false))
+Inv-loop words rows k n marks₀ index i₀ marks i =
+    Marking (λ (j : ℕ). not (dominated (relationIn words) (rulesIn rows k) (ruleAt rows j))) k marks₀ marks i
 
 abbrev μ-loop : tie.MeasureT-loop
-μ-loop words k ranks rows marks₀ head next i₀ marks i = k - i
+μ-loop words rows k n marks₀ index i₀ marks i = k - i
 
-chain-rules-requires : tie.Need-chain-rules-requires Inv-loop μ-loop
-chain-rules-requires c κs =
-    let a = c .before .before in
-    let s = a .before .before in
-    let few = s .pre .0 .0 in
-    let long : length (s .args .rows .now) ≡ 10240 = a .chain-rules-arg .given .0 in
-    ((few, (omega arith, omega arith)), ((λ i h. target-low _ _ i (s .pre .1 i h)), (omega arith, few)))
+abbrev indexed : tie.In-loop Inv-loop μ-loop → tie.After-index-rules Inv-loop μ-loop
+indexed t = t .before .before .before
 
-loop-holds : tie.Need-loop-holds Inv-loop μ-loop
-loop-holds c = (search needs, refl, λ j h. absurd (omega arith))
+abbrev start : tie.In-loop Inv-loop μ-loop → tie.Start Inv-loop μ-loop
+start t = indexed t .before .before .before .before
 
-abbrev chained : tie.In-loop Inv-loop μ-loop → tie.After-chain-rules Inv-loop μ-loop
-chained i = i .before .before .before .before
+index-rules-requires : tie.Need-index-rules-requires Inv-loop μ-loop
+unfolding keyOf
+index-rules-requires c κs =
+    let s = c .before .before .before in
+    ((s .pre .0 .0, (s .pre .1 .0, omega (arith, s .pre .0 .0 .count))), s .pre .1 .1)
 
-abbrev start : tie.After-chain-rules Inv-loop μ-loop → tie.Start Inv-loop μ-loop
-start r = r .before .before .before .before .before
+rules-of-requires : tie.Need-rules-of-requires Inv-loop μ-loop
+rules-of-requires c κs =
+    let t = c .before .before in
+    indexed t .index-rules .ensures .part _ (rw (c .target-of .ensures) (start t .pre .1 .1 _ (t .loop-test .taken)))
+
+numbers-are : (c : tie.After-rules-of Inv-loop μ-loop)
+    → let t = c .before .before .before in
+    let s = start t in
+    c .rules-of .result .now ≡ alike (s .args .rows .now) (t .before .loop .i) (s .args .k)
+unfolding keyOf
+numbers-are c =
+    let b = c .before in
+    let t = b .before .before in
+    c .rules-of .ensures ∙ ap (numbersOf _) (b .target-of .ensures)
+    ∙ indexed t .index-rules .ensures .numbers _ (start t .pre .1 .1 _ (t .loop-test .taken))
 
 is-undominated-requires : tie.Need-is-undominated-requires Inv-loop μ-loop
 is-undominated-requires c κs =
-    let i = c .before .before in
-    let r = chained i in
-    let s = start r in
-    ((s .pre .0 .0, i .loop-test .taken), (s .pre .1, r .chain-rules .ensures))
+    let t = c .before .before .before in
+    let s = start t in
+    (s .args .k, (t .loop-test .taken, (s .pre .0 .0, numbers-are c)))
 
 loop-again : tie.Need-loop-again Inv-loop μ-loop
 loop-again c =
-    let i = c .before .before .before in
-    let l = i .before .loop in
-    let a = start (chained i) .args in (
-      search needs,
-      simp length-set (l .inv .1),
-      filled-more (Undominated (a .words .now) (a .ranks .now) (a .rows .now) (a .k)) false
-          (l .marks) (l .i) (c .is-undominated .result) (omega arith) (l .inv .2) (c .is-undominated .ensures),
-    )
-
-returns : tie.Need-returns Inv-loop μ-loop
-unfolding marked
-returns c = λ R e i h. c .before .loop .inv .2 i (omega arith) R e
+    let b = c .before in
+    let t = b .before .before .before in
+    marking-next (t .before .loop .inv) (t .loop-test .taken) (start t .pre .0 .1) (c .is-undominated .result)
+    (c .is-undominated .ensures (start t .args .k) (numbers-are b))
 
 pub mark-undominated-spec : {M : Type 1} → statement M
 mark-undominated-spec =
     tie.close
-    (tie.spec Inv-loop μ-loop (λ c. search needs) (λ c. search needs) chain-rules-requires loop-holds is-undominated-requires
-    (λ c. omega arith) (λ c. search needs) (λ c. search needs) loop-again (λ c. c .before .loop .inv .1) returns)
+    (tie.spec Inv-loop μ-loop (λ c. search needs) index-rules-requires (λ c. marking-none _ _ _) (λ c. search needs)
+    (λ c κs. start (c .before) .pre .0 .0 .row _ (c .before .loop-test .taken)) (λ c. search needs) rules-of-requires
+    is-undominated-requires
+    (λ c. let t = c .before .before .before .before in omega (arith, t .before .loop .inv .as-long, start t .pre .0 .1)) (λ c. search needs)
+    (λ c. search needs) loop-again (λ c. c .before .loop .inv .as-long)
+    (λ c. marking-all (c .before .loop .inv) (c .loop-test .left)))

@@ -1,32 +1,43 @@
--- `reduction::marking::same_rule` meets its contract: rules of one symbol are equal where their targets and children are.
+-- The same symbol, the same target, and then the children.
 use borrow.Author.Needs.{needs}
-use native.Mathlib.Omega.{arith}
-use mathlib.Core.Path.{_≡_, sym, _∙_}
-use lib.ListN.{length}
-use Rattle.reduction.proofs.Marks.{rule-other, rule-same}
+use borrow.Author.Tests.{eq-eqb, ne-eqb}
+use mathlib.Core.Path.{sym, _∙_}
+use Rattle.reduction.specs.Steps.{sameRule}
 use Rattle.reduction.proofs.marking.same_rule.Statement.{statement}
 use Rattle.reduction.proofs.marking.same_rule.Tie as tie
 
 returns : tie.Need-returns
-returns c = sym (rule-other _ _ _ _ (c .if1 .taken))
-
-same-states-requires : tie.Need-same-states-requires
-same-states-requires c κs =
-    let s = c .before .before .before .before .before in
-    let rank = s .pre .1 .0 .rank in
-    let long : length (s .args .rows .now) ≡ 10240 = c .same-states-arg .given .0 in
-    (omega arith, omega arith)
+unfolding sameRule
+returns c =
+    let b = c .before in
+    sym (rw (ne-eqb _ _ (λ e. c .if1 .taken (b .before .symbol-of .ensures ∙ e ∙ sym (b .symbol-of2 .ensures)))))
 
 returns-2 : tie.Need-returns-2
+unfolding sameRule
 returns-2 c =
-    let e = c .before .before .before in
-    let s = e .before .before .before in
-    let long : length (s .args .rows .now) ≡ 10240 = c .before .same-states-arg .given .0 in
-    c .same-states .ensures ∙ sym (rule-same _ _ (s .args .i) (s .args .j) (e .if1 .left) (omega arith) (omega arith))
+    let b = c .before in
+    let s = b .before .before in
+    sym
+    (rw (
+      eq-eqb _ _ (sym (s .before .before .symbol-of .ensures) ∙ s .if1 .left ∙ s .before .symbol-of2 .ensures),
+      ne-eqb _ _ (λ e. c .if2 .taken (b .before .target-of .ensures ∙ e ∙ sym (b .target-of2 .ensures))),
+    ))
+
+returns-3 : tie.Need-returns-3
+unfolding sameRule
+returns-3 c =
+    let t = c .before .before .before in
+    let s = t .before .before .before in
+    c .same-states .ensures
+    ∙ rw (
+      c .before .before .children-of .ensures,
+      c .before .children-of2 .ensures,
+      eq-eqb _ _ (sym (s .before .before .symbol-of .ensures) ∙ s .if1 .left ∙ s .before .symbol-of2 .ensures),
+      eq-eqb _ _ (sym (t .before .before .target-of .ensures) ∙ t .if2 .left ∙ t .before .target-of2 .ensures),
+    )
 
 pub same-rule-spec : {M : Type 1} → statement M
 same-rule-spec =
     tie.close
-    (tie.spec (λ c. search needs) (λ c. search needs) (λ c. search needs) (λ c. search needs) (λ c. search needs)
-    (λ c. search needs) returns (λ c. search needs) (λ c. search needs) (λ c. search needs) (λ c. search needs)
-    (λ c. search needs) (λ c. search needs) (λ c. search needs) (λ c. search needs) same-states-requires returns-2)
+    (tie.spec (λ c κs. search needs) (λ c κs. search needs) returns (λ c κs. search needs) (λ c κs. search needs) returns-2
+    (λ c κs. search needs) (λ c κs. search needs) (λ c κs. search needs) returns-3)

@@ -6,13 +6,11 @@ use Rattle.simulation.proofs.evaluation.accept_nodes.Tie as tie
 
 accept-on-requires : tie.Need-accept-on-requires
 accept-on-requires c κs =
-    let s = c .before .before .before in
-    ((s .pre .0, (λ h few low. omega (arith, c .before .if1 .taken), omega arith)), s .pre .1)
+    (c .before .before .before .before .before .before .pre, (λ h few low. omega (arith, c .before .if1 .taken), omega arith))
 
 accept-on-requires-2 : tie.Need-accept-on-requires-2
 accept-on-requires-2 c κs =
-    let s = c .before .before .before in
-    ((s .pre .0, (λ h few low. omega arith, omega arith)), s .pre .1)
+    (c .before .before .before .before .before .before .pre, (λ h few low. omega arith, omega arith))
 
 pub accept-nodes-spec : {M : Type 1} → statement M
 accept-nodes-spec =

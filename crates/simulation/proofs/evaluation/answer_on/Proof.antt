@@ -15,17 +15,15 @@ returns c = λ rules trees tall represents. sym (not-one rules _ trees _ tall (c
 returns-2 : tie.Need-returns-2
 unfolding acceptanceOf
 returns-2 c = λ rules trees tall represents.
-    let o = c .before .before in
     sym
-    (one-answer rules _ _ (o .before .before .pre .0) _ trees (tall ∙ o .if1 .left) represents
+    (one-answer rules _ _ trees (tall ∙ c .before .before .if1 .left) represents
     ∙ ap found (sym (c .before .has-final .ensures) ∙ not-true _ (c .if2 .taken)))
 
 returns-3 : tie.Need-returns-3
 unfolding acceptanceOf
 returns-3 c = λ rules trees tall represents.
-    let o = c .before .before in
     sym
-    (one-answer rules _ _ (o .before .before .pre .0) _ trees (tall ∙ o .if1 .left) represents
+    (one-answer rules _ _ trees (tall ∙ c .before .before .if1 .left) represents
     ∙ ap found (sym (c .before .has-final .ensures) ∙ not-false _ (c .if2 .left)))
 
 pub answer-on-spec : {M : Type 1} → statement M

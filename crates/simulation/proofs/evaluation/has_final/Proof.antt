@@ -1,49 +1,27 @@
--- `simulation::evaluation::has_final` meets its contract: the states from q on are still to be searched.
+-- `simulation::evaluation::has_final` meets its contract: the two sets have a common state.
 use borrow.Author.Needs.{needs}
-use native.Mathlib.Nat.{sub-zero}
-use Prim.Native.Nat.{ℕ, _-_, _≤_}
-use mathlib.Core.Path.{_≡_, refl, sym, _∙_}
-use mathlib.Core.Logic.{⊎-elim}
-use Rattle.automaton.specs.Lists.{from, keep}
-use Rattle.automaton.specs.StateSet.{member}
-use Rattle.simulation.specs.Tree.{any}
-use Rattle.simulation.proofs.Stacks.{search-out, search-miss, search-hit, search-end}
+use Prim.Native.Nat.{ℕ}
+use mathlib.Core.Path.{_≡_}
+use mir.Syntax.{w64}
+use mir.Val.{Fits}
+use lib.ListN.{getD}
+use denote.Ref.{now}
+use Rattle.automaton.specs.StateSet.{meetOf}
+use Rattle.simulation.specs.Words.{entryAt}
+use Rattle.simulation.proofs.Accepting.{common-state}
 use Rattle.simulation.proofs.evaluation.has_final.Statement.{statement}
 use Rattle.simulation.proofs.evaluation.has_final.Tie as tie
 
-abbrev Inv-loop : tie.InvT-loop
-Inv-loop finals n stack q₀ q =
-    (q ≤ n) × (any (member stack) (keep (member (finals .words)) (from 0 n)) ≡ any (member stack) (keep (member (finals .words)) (from q (n - q))))
-
-abbrev μ-loop : tie.MeasureT-loop
-μ-loop finals n stack q₀ q = n - q
-
-loop-holds : tie.Need-loop-holds Inv-loop μ-loop
-loop-holds c = (search needs, rw sub-zero)
-
-returns : tie.Need-returns Inv-loop μ-loop
+returns : tie.Need-returns
 returns c =
-    let t = c .before .before .before .before in
-    sym
-    (t .before .loop .inv .1
-    ∙ search-hit _ _ _ _ (t .loop-test .taken) (sym (c .before .before .before .has .ensures) ∙ c .before .before .if1 .taken)
-    (sym (c .before .in-entry .ensures) ∙ c .if2 .taken))
-
-loop-again : tie.Need-loop-again Inv-loop μ-loop
-loop-again c =
-    let t = c .before .before in (
-      search needs,
-      t .before .loop .inv .1
-          ∙ ⊎-elim
-          (λ w. search-miss _ _ _ _ (t .loop-test .taken) (sym (c .before .has .ensures) ∙ w .0 .taken) (sym (w .1 .ensures) ∙ w .2 .left))
-          (λ w. search-out _ _ _ _ (t .loop-test .taken) (sym (c .before .has .ensures) ∙ w .left)) (c .if1 .came),
-    )
-
-returns-2 : tie.Need-returns-2 Inv-loop μ-loop
-returns-2 c = sym (c .before .loop .inv .1 ∙ search-end _ _ _ _ (c .loop-test .left))
+    let m = c .before .before in
+    let fits : (i : ℕ) → Fits w64 (getD (m .meet .result .words) i 0) = λ i. search (needs, m .meet .ok) in
+    let s = m .before .before .before in
+    let is : m .meet .result .words ≡ meetOf (entryAt (now (s .args .stack)) 0) (s .args .finals .words) =
+    rw (← m .before .entry .ensures) (m .meet .ensures) in
+    rw (c .same .ensures, is, c .before .empty .ensures) (common-state _ _ (λ i. rw is at (fits i .fits)))
 
 pub has-final-spec : {M : Type 1} → statement M
 has-final-spec =
     tie.close
-    (tie.spec Inv-loop μ-loop loop-holds (λ c κs. search needs) (λ c κs. search needs) returns (λ c. search needs)
-    (λ c. search needs) loop-again returns-2)
+    (tie.spec (λ c κs. search needs) (λ c κs. search needs) (λ c κs. search needs) (λ c κs. search needs) returns)

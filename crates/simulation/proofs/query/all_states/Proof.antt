@@ -30,5 +30,5 @@ returns c =
 pub all-states-spec : {M : Type 1} → statement M
 all-states-spec =
     tie.close
-    (tie.spec Inv-loop μ-loop (λ c κs. search needs) loop-holds (λ c κs. search needs) (λ c. search needs)
+    (tie.spec Inv-loop μ-loop (λ c κs. search needs) loop-holds (λ c. search needs) (λ c κs. search needs) (λ c. search needs)
     (λ c. search needs) loop-again returns)

@@ -26,21 +26,22 @@ loop-holds c = (search needs, search needs, over-nil _ _)
 put-word-requires : tie.Need-put-word-requires Inv-loop μ-loop
 put-word-requires c κs =
     let l = c .before .before .before in
-    omega (arith, l .loop .inv .1, l .before .before .before .pre .1)
+    omega (arith, l .loop .inv .1, l .before .before .pre .1)
 
 loop-again : tie.Need-loop-again Inv-loop μ-loop
 loop-again c =
     let p = c .before .before in
     let l = p .before .before .before .before in
-    let s = l .before .before .before in (
+    let s = l .before .before in (
       search needs,
       p .put-word .kept .0 ∙ l .loop .inv .1,
-      words-next (s .args .out .now) (s .args .words .now) _ (l .loop .i) _ (l .loop .inv .2) (p .put-word .ensures) (omega (arith, s .pre .1)),
+      words-next (s .args .out .now) (s .args .words .now) _ (l .loop .i) _ (l .loop .inv .2) (p .put-word .ensures)
+          (omega (arith, s .pre .1)),
     )
 
 returns : tie.Need-returns Inv-loop μ-loop
 returns c =
-    let all : 8 * c .before .loop .i ≡ 32 * c .before .before .before .before .args .n = omega arith in
+    let all : 8 * c .before .loop .i ≡ 32 * c .before .before .before .args .n = omega arith in
     rw (← all) (c .before .loop .inv .2)
 
 pub put-rows-spec : {M : Type 1} → statement M

@@ -28,7 +28,7 @@ loop-again c =
     let i = c .before .before in
     let l = i .before .loop in
     let s = i .before .before .before in
-    let states = s .args .states .words in
+    let states = member (s .args .states .words) in
     let has = c .before .has .ensures in
     let low : l .q < 256 = omega (arith, s .pre) in (
       search needs,
@@ -47,5 +47,5 @@ returns c =
 pub below-spec : {M : Type 1} → statement M
 below-spec =
     tie.close
-    (tie.spec Inv-loop μ-loop (λ c κs. search needs) loop-holds (λ c κs. search needs) (λ c κs. search needs)
-    (λ c. search needs) (λ c. search needs) loop-again returns)
+    (tie.spec Inv-loop μ-loop (λ c κs. search needs) loop-holds (λ c. search needs) (λ c κs. search needs) (λ c. search needs)
+    (λ c κs. search needs) (λ c. search needs) (λ c. search needs) loop-again returns)

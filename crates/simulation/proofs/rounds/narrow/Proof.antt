@@ -1,119 +1,168 @@
--- `simulation::rounds::narrow` meets its contract: a walk along the chain of the target.
+-- `simulation::rounds::narrow` meets its contract: the states before the index are judged; the bits of a word that are left are those from
+-- the index on.
 use borrow.Author.Needs.{needs}
+use borrow.Author.Tests.{not-true, not-false}
 use native.Mathlib.Omega.{arith}
-use Prim.Native.Nat.{ℕ, _-_, _≤_, _<_}
-use mathlib.Core.Path.{_≡_, sym, ap, _∙_}
+use Prim.Native.Nat.{ℕ, _+_, _-_, _*_, _≤_, _<_}
+use mathlib.Core.Path.{_≡_, sym, _∙_}
+use mathlib.Core.Logic.{⊎-elim}
 use mathlib.Core.List.{List}
-use mathlib.Core.Bool.{true}
-use lib.ListN.{getD}
-use Rattle.automaton.specs.StateSet.{member}
-use Rattle.automaton.specs.Decoded.{ruleAt}
-use Rattle.simulation.specs.Simulation.{related}
-use Rattle.simulation.specs.Inner.{Has, relationIn}
-use Rattle.simulation.proofs.Search.{and-true-out}
-use Rattle.simulation.proofs.Rows.{related-in}
-use Rattle.simulation.proofs.Walks.{linksLeft, Turn, turn, walk-from, walk-less, walk-low}
-use Rattle.simulation.proofs.Walks.{Keyed, Narrowed, narrowed-none, narrowed-next, narrowed-all}
-use Rattle.simulation.proofs.Touching.{rule-quiet}
+use mathlib.Core.Bool.{Bool, false≢true}
+use lib.ListN.{length}
+use lib.Count.{trailingZeros}
+use Rattle.automaton.specs.StateSet.{member, withoutState}
+use Rattle.automaton.specs.Row.{ruleAt}
+use Rattle.simulation.specs.Tree.{any}
+use Rattle.simulation.specs.Simulation.{matchedBy}
+use Rattle.simulation.specs.Words.{relationIn}
+use Rattle.simulation.specs.Index.{numbersOf}
+use Rattle.simulation.proofs.Narrowing.{Narrowed, narrowed-none, narrowed-on}
+use Rattle.simulation.proofs.Narrowing.{Rest, rest-word, rest-none, rest-without, rest-next, rest-first}
+use Rattle.simulation.proofs.Narrowing.{First, next-stays, next-out, next-member, put-without, and-same}
+use Rattle.simulation.proofs.Narrowing.{below-low, answering-rows, answering-matched}
 use Rattle.simulation.proofs.rounds.narrow.Statement.{statement}
 use Rattle.simulation.proofs.rounds.narrow.Tie as tie
 
+-- Some rule that the index has for a state matches rule i.
+abbrev passes : List ℕ → List ℕ → ℕ → List ℕ → List ℕ → ℕ → Bool
+passes words rows i others index r =
+    any (λ (j : ℕ). matchedBy (relationIn words) (ruleAt rows i) (ruleAt others j)) (numbersOf index r)
+
+-- A row that was narrowed to the word's begin, whatever it was first, is narrowed to the index.
+abbrev Inv-loop2 : tie.InvT-loop2
+Inv-loop2 row₀ words rows i others index lost₀ w rest₀ r₀ row lost rest r =
+    (64 * w ≤ r) × (r ≤ 64 * w + 64) × Rest row r (64 * w + 64) rest
+    × ((first : List ℕ) → Narrowed (passes words rows i others index) first (64 * w) row₀ lost₀
+    → Narrowed (passes words rows i others index) first r row lost)
+
+abbrev μ-loop2 : tie.MeasureT-loop2
+μ-loop2 row₀ words rows i others index lost₀ w rest₀ r₀ row lost rest r = 64 * w + 64 - r
+
 abbrev Inv-loop : tie.InvT-loop
-Inv-loop first same last k ranks rows symbol-head symbol-next target-head target-next q kept₀ link₀ kept link =
-    Narrowed ranks rows k (relationIn last) q target-next (kept .words) link
-    × ((r : ℕ) → r < 256 → member (kept .words) r ≡ true → related (relationIn last) q r ≡ true)
+Inv-loop row₀ words rows i others index lost₀ w₀ row lost w =
+    (w ≤ 4) × Narrowed (passes words rows i others index) row₀ (64 * w) row lost
 
 abbrev μ-loop : tie.MeasureT-loop
-μ-loop first same last k ranks rows symbol-head symbol-next target-head target-next q kept₀ link₀ kept link =
-    linksLeft target-next 1024 link
+μ-loop row₀ words rows i others index lost₀ w₀ row lost w = 4 - w
 
-first-low : (c : tie.Start Inv-loop μ-loop) → getD (c .args .target-head .now) (c .args .q) 0 ≤ 1024
-first-low c =
-    let i = c .pre .0 in
-    let few = i .count in
-    walk-low _ _ _ _ (walk-from (c .args .rows .now) _ _ 1 (c .args .k) _ (i .count) (c .pre .1 .1) (i .targets))
-    (λ j h. omega arith)
+-- What holds at the start, seen from the inner loop.
+abbrev begin : tie.At-loop2 Inv-loop2 μ-loop2 Inv-loop μ-loop → tie.Start Inv-loop2 μ-loop2 Inv-loop μ-loop
+begin c = c .before .before .before .before .before .before .before .before
 
-turned : (c : tie.In-loop Inv-loop μ-loop)
-    → let a = c .before .before .before .before .args in
-    let l = c .before .loop in
-    Turn (a .target-next .now) (Keyed (a .rows .now) (a .k) 1 (a .q)) (l .link) (l .inv .0 .0 .rest)
-turned c = turn _ _ _ (c .before .loop .inv .0 .0) (c .loop-test .taken)
+loop-holds : tie.Need-loop-holds Inv-loop2 μ-loop2 Inv-loop μ-loop
+loop-holds c = (omega arith, narrowed-none _ _ (c .before .before .before .before .pre .0 .0))
 
-next-low : (c : tie.In-loop Inv-loop μ-loop)
-    → getD (c .before .before .before .before .args .target-next .now) (c .before .loop .link - 1) 0
-    ≤ c .before .before .before .before .args .k
-next-low c = walk-low _ _ _ _ (turned c .walk) (λ j h. h .0)
-
-loop-holds : tie.Need-loop-holds Inv-loop μ-loop
-loop-holds c =
-    let s = c .before .before in
-    let i = s .pre .0 in
-    let row : Has (c .before .row .result .words) (related (relationIn (s .args .last .now)) (s .args .q)) =
-    λ r h. ap (λ (l : List ℕ). member l r) (c .before .row .ensures)
-    ∙ sym (related-in (s .args .last .now) (s .args .q) r (s .pre .1 .1) h) in (
-      narrowed-none (s .args .ranks .now) (s .args .rows .now) (s .args .k) (relationIn (s .args .last .now)) (s .args .q)
-          (c .before .row .result .words) (s .args .target-head .now) (s .args .target-next .now) (i .count) (s .pre .1 .1)
-          (i .targets) row,
-      λ r h is. sym (row r h) ∙ is,
+loop2-holds : tie.Need-loop2-holds Inv-loop2 μ-loop2 Inv-loop μ-loop
+loop2-holds c =
+    let l = c .before .before .loop in (
+      omega arith,
+      omega arith,
+      rest-word (l .row) (l .w) (c .before .loop-test .taken) (omega (arith, c .slice-known2 .given (l .w))),
+      λ first n. n,
     )
 
-narrow-by-requires : tie.Need-narrow-by-requires Inv-loop μ-loop
-unfolding ruleAt
-narrow-by-requires c κs =
-    let s = c .before .before .before .before in
-    let l = c .before .loop in
-    let i = s .pre .0 in
-    let t = turned c in (
-      (i .count, t .first .0),
-      (
-        i .ranged,
-        (
-          i .symbols,
-          λ untouched r h is.
-              rule-quiet _ _ _ _ _ (s .pre .1 .0) (l .link - 1) (t .first .0) untouched r
-              (ap (λ (p : ℕ). related (relationIn (s .args .last .now)) p r) (t .first .1) ∙ l .inv .1 r h is),
-        ),
-      ),
-    )
+-- The next state of the row.
+module _ (c : tie.In-loop2 Inv-loop2 μ-loop2 Inv-loop μ-loop) where
+  abbrev end : ℕ
+  end = 64 * c .before .before .before .before .loop .w + 64
 
-loop-again : tie.Need-loop-again Inv-loop μ-loop
+  room : end ≤ 256
+  room = omega (arith, c .before .before .before .loop-test .taken)
+
+  abbrev next : ℕ
+  next = c .before .loop2 .r + trailingZeros 64 (c .before .loop2 .rest)
+
+  is-next : First (λ (s : ℕ). member (c .before .loop2 .row) (c .before .loop2 .r + s)) (end - c .before .loop2 .r)
+      (trailingZeros 64 (c .before .loop2 .rest))
+  is-next = rest-first (c .before .loop2 .inv .2) (omega arith) (c .loop2-test .taken)
+
+  within : next < end
+  within = omega (arith, is-next .within)
+
+  small : next < 256
+  small = omega (arith, within, room)
+
+  long : length (c .before .loop2 .row) ≡ 4
+  long = c .before .loop2 .inv .3 _ (c .before .before .before .before .loop .inv .1) .long
+
+  answers : next < begin (c .before) .pre .1 .1 .0
+  answers =
+      below-low _ (begin (c .before) .pre .1 .1 .1 .1) next small
+      (next-member (c .before .loop2 .inv .3 _ (c .before .before .before .before .loop .inv .1)) is-next small)
+
+passing : (c : tie.After-has-match Inv-loop2 μ-loop2 Inv-loop μ-loop)
+    → let a = begin (c .before .before .before) .args in
+    passes (a .words .now) (a .rows .now) (a .i) (a .others .now) (a .index .now) (next (c .before .before)) ≡ c .has-match .result
+passing c = sym (rw (← c .before .rules-of .ensures) (c .has-match .ensures))
+
+has-match-requires : tie.Need-has-match-requires Inv-loop2 μ-loop2 Inv-loop μ-loop
+has-match-requires c κs =
+    let p = begin (c .before .before) .pre in
+    (p .0 .1, λ j m. answering-rows (p .1 .1 .1 .0) (answers (c .before)) j (rw (c .rules-of .ensures) at m))
+
+loop2-again : tie.Need-loop2-again Inv-loop2 μ-loop2 Inv-loop μ-loop
+loop2-again c =
+    let i = c .before .before .before in
+    let l = i .before .loop2 in
+    let rest = rest-next (l .inv .2) _ (is-next i .within) in
+    ⊎-elim
+    (λ w.
+    let out : c .if1 .row ≡ withoutState (l .row) (next i) =
+    w .8 ∙ w .5 .ensures ∙ rw (w .4 .ensures, w .3 .ensures) (put-without _ _ (long i)) in
+    rw (out, w .9) (
+      omega arith,
+      omega (arith, within i),
+      rest-without rest (next i) (omega arith) (room i),
+      λ first n. next-out (l .inv .3 first n) (is-next i) (small i) (passing (c .before) ∙ not-true _ (w .0 .taken)),
+    ))
+    (λ w. rw (w .1, w .2) (
+      omega arith,
+      omega (arith, within i),
+      rest,
+      λ first n. next-stays (l .inv .3 first n) (is-next i) (passing (c .before) ∙ not-false _ (w .0 .left)),
+    ))
+    (c .if1 .came)
+
+loop-again : tie.Need-loop-again Inv-loop2 μ-loop2 Inv-loop μ-loop
 loop-again c =
-    let i = c .before .before in
-    let a = i .before .before .before .before .args in
-    let l = i .before .loop in
-    let by = c .before .narrow-by in (
-      narrowed-next (a .ranks .now) (a .rows .now) (a .k) (relationIn (a .last .now)) (a .q) (a .target-next .now)
-          (l .kept .words) (by .result .words) (l .link) (i .loop-test .taken) (l .inv .0) (by .ensures),
-      λ r h is. l .inv .1 r h (and-true-out _ _ (sym (by .ensures r h) ∙ is) .0),
+    let l = c .before .loop2 in
+    let o = c .before .before .before .before .loop in (
+      omega arith,
+      narrowed-on (l .inv .3 _ (o .inv .1)) (64 * (o .w + 1)) (omega arith)
+          (λ s b h e is. absurd (false≢true (sym (rest-none (l .inv .2) (c .loop2-test .left) s h (omega arith)) ∙ is))),
     )
 
-returns : tie.Need-returns Inv-loop μ-loop
+returns : tie.Need-returns Inv-loop2 μ-loop2 Inv-loop μ-loop
 returns c =
-    let a = c .before .before .before .before .args in
     let l = c .before .loop in
-    narrowed-all (a .ranks .now) (a .rows .now) (a .k) (relationIn (a .last .now)) (a .q) (a .target-next .now)
-    (l .kept .words) (l .link) (omega arith) (l .inv .0)
-
-few : (c : tie.In-loop Inv-loop μ-loop) → c .before .before .before .before .args .k ≤ 1024
-few c = c .before .before .before .before .pre .0 .count
+    let r = l .inv .1 in (
+      r .same,
+      (r .fewer, λ k n a low q b. r .low q b (omega arith) ∙ and-same _ (λ is. answering-matched a (below-low _ low q b is) _ _)),
+    )
 
 pub narrow-spec : {M : Type 1} → statement M
 narrow-spec =
     tie.close
-    (tie.spec
-    Inv-loop
-    μ-loop
-    (λ c κs. c .pre .1 .1)
+    (tie.spec Inv-loop2 μ-loop2 Inv-loop μ-loop loop-holds
     (λ c. search needs)
-    (λ c. search needs)
-    (λ c. omega (arith, first-low (c .before .before)))
-    loop-holds
-    (λ c. search needs)
-    narrow-by-requires
-    (λ c. omega (arith, turned (c .before) .first .0, few (c .before)))
-    (λ c. omega (arith, turned (c .before) .first .0, few (c .before)))
-    (λ c. omega (arith, next-low (c .before .before), few (c .before .before)))
-    (λ c. walk-less _ _ _ (c .before .before .before .loop .inv .0 .0) (c .before .before .loop-test .taken))
+    (λ c. omega (arith, c .before .before .loop .inv .1 .long))
+    (λ c. omega arith)
+    loop2-holds
+    (λ c. record { fits = omega (arith, small c) })
+    (λ c. omega (arith, small c))
+    (λ c κs. begin (c .before) .pre .1 .1 .1 .0 .index-is .part _ (answers c))
+    has-match-requires
+    (λ c κs. omega (arith, long (c .before .before .before .before .before)))
+    (λ c. record { fits = omega (arith, small (c .before .before .before .before .before .before)) })
+    (λ c κs. search needs)
+    (λ c κs. omega (arith, long (c .before .before .before .before .before .before .before)))
+    (λ c. record { fits = omega (arith, small (c .before .before .before)) })
+    (λ c. omega (arith, is-next (c .before .before .before) .within))
+    (λ c. omega (arith, small (c .before .before .before)))
+    (λ c. omega (arith, within (c .before .before .before)))
+    loop2-again
+    (λ c. omega arith)
+    (λ c. omega arith)
     loop-again
+    (λ c. c .before .loop .inv .1 .long ∙ sym (c .before .before .before .before .before .before .pre .0 .0))
     returns)

@@ -1,46 +1,59 @@
--- `simulation::rounds::put_back` meets its contract: the rows below the index are the next relation's, and the others the last one's.
+-- `simulation::rounds::put_back` meets its contract: of the rows below the index those of the changed states are the next relation's.
 use borrow.Author.Needs.{needs}
 use native.Mathlib.Omega.{arith}
-use Prim.Native.Nat.{ℕ, _-_, _≤_, _<_}
-use mathlib.Core.Path.{_≡_, refl}
-use mathlib.Core.List.{List, []}
-use lib.ListN.{length, getD, length-set}
-use Rattle.simulation.proofs.Rows.{filled-more, rest-fewer}
+use Prim.Native.Nat.{ℕ, _+_, _*_, _-_, _≤_}
+use mathlib.Core.Path.{_≡_, refl, sym, _∙_}
+use mathlib.Core.Logic.{⊎-elim}
+use mathlib.Core.List.{[]}
+use lib.ListN.{length, getD}
+use Rattle.simulation.specs.Words.{entryAt}
+use Rattle.simulation.proofs.Replacing.{Replaced, replaced-none, replaced-in, replaced-out}
 use Rattle.simulation.proofs.rounds.put_back.Statement.{statement}
 use Rattle.simulation.proofs.rounds.put_back.Tie as tie
 
-abbrev Is : List (List ℕ) → ℕ → List ℕ → Type 0
-Is matrix q row = row ≡ getD matrix q []
-
 abbrev Inv-loop : tie.InvT-loop
-Inv-loop last₀ next n q₀ last q =
-    (q ≤ n) × (length last ≡ length last₀) × ((i : ℕ) → i < q → Is next i (getD last i []))
-    × ((i : ℕ) → q ≤ i → Is last₀ i (getD last i []))
+Inv-loop changed n next words₀ q₀ words q =
+    (q ≤ n) × (length words ≡ length words₀)
+    × Replaced (changed .words) (λ (e : ℕ). getD next e []) (entryAt words₀) q words
 
 abbrev μ-loop : tie.MeasureT-loop
-μ-loop last₀ next n q₀ last q = n - q
+μ-loop changed n next words₀ q₀ words q = n - q
 
 loop-holds : tie.Need-loop-holds Inv-loop μ-loop
-loop-holds c = (search needs, refl, (λ i h. absurd (omega arith)), λ i h. refl)
+loop-holds c = (search needs, refl, replaced-none _ _ _)
+
+-- The entry lies within the words.
+room : (c : tie.In-loop Inv-loop μ-loop) → 4 * c .before .loop .q + 4 ≤ length (c .before .loop .words)
+room c = omega (arith, c .before .loop .inv .1, c .before .before .before .pre)
+
+row-four : (c : tie.After-row-of Inv-loop μ-loop) → length (c .row-of .result .words) ≡ 4
+row-four c = search needs
 
 loop-again : tie.Need-loop-again Inv-loop μ-loop
 loop-again c =
     let l = c .before .before .before .loop in
-    let s = c .before .before .before .before in
-    let row = c .before .row .result .words in (
-      search needs,
-      simp length-set (l .inv .1),
-      filled-more (Is (s .args .next .now)) [] (l .last) (l .q) row (omega (arith, l .inv .1, s .pre)) (l .inv .2)
-          (c .before .row .ensures),
-      rest-fewer (Is (s .args .last .now)) [] (l .last) (l .q) row (l .inv .3),
-    )
+    let has = c .before .has .ensures in
+    ⊎-elim
+    (λ w. rw (w .6) (
+      omega arith,
+      w .3 .kept .0 ∙ l .inv .1,
+      rw (w .3 .ensures, w .2 .ensures) (replaced-in (l .inv .2) (room (c .before .before)) (rw (w .2 .ensures) at (row-four record {
+        before = record { before = record { before = c .before; if1 = w .0 }; put-entry-arg = w .1 };
+        row-of = w .2;
+      })) (sym has ∙ w .0 .taken)),
+    ))
+    (λ w. rw (w .1) (omega arith, l .inv .1, replaced-out (l .inv .2) (sym has ∙ w .0 .left)))
+    (c .if1 .came)
 
 returns : tie.Need-returns Inv-loop μ-loop
-returns c = let l = c .before .loop in ((λ q h. l .inv .2 q (omega arith)), λ q h. l .inv .3 q (omega arith))
+returns c =
+    let l = c .before .loop in
+    let end : l .q ≡ c .before .before .before .args .n = omega arith in
+    ((λ q h is. l .inv .2 .entries q h ∙ rw (end, is)), λ q h is. l .inv .2 .entries q h ∙ rw (end, is))
 
 pub put-back-spec : {M : Type 1} → statement M
 put-back-spec =
     tie.close
-    (tie.spec Inv-loop μ-loop loop-holds (λ c κs. search needs) (λ c. search needs)
-    (λ c. omega (arith, c .before .before .before .before .pre)) (λ c. search needs) (λ c. search needs)
-    loop-again (λ c. c .before .loop .inv .1) returns)
+    (tie.spec Inv-loop μ-loop loop-holds (λ c. search needs) (λ c κs. search needs)
+    (λ c κs. omega (arith, c .before .before .before .before .before .before .pre)) (λ c κs. room (c .before .before .before .before))
+    (λ c. search needs) (λ c. search needs) loop-again (λ c. c .before .loop .inv .1) returns)

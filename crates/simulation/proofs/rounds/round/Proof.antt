@@ -1,133 +1,130 @@
--- `simulation::rounds::round` meets its contract: the rows below the index are the next relation's.
+-- `simulation::rounds::round` meets its contract: after rule i the rows are narrowed by those of the first i rules that are touched.
 use borrow.Author.Needs.{needs}
 use native.Mathlib.Omega.{arith}
 use Prim.Native.Nat.{ℕ, _+_, _-_, _≤_, _<_}
-use mathlib.Core.Path.{_≡_, refl, sym, ap, subst, _∙_}
+use mathlib.Core.Path.{_≡_, sym, ap, subst, _∙_}
 use mathlib.Core.Logic.{⊎-elim}
 use mathlib.Core.List.{List, []}
-use mathlib.Core.Bool.{Bool, true, false, true≢false, false≢true}
 use lib.ListN.{length, getD, set, length-set}
+use Rattle.automaton.specs.Lists.{from}
 use Rattle.automaton.specs.StateSet.{member}
-use Rattle.automaton.proofs.StateSets.{member-empty}
-use Rattle.simulation.specs.Simulation.{Relation, related, refine}
-use Rattle.simulation.specs.Words.{rulesIn}
-use Rattle.simulation.specs.Inner.{Has, relationIn, loses}
-use Rattle.simulation.proofs.Rows.{filled-more, related-in}
-use Rattle.simulation.proofs.Settling.{loses-none, loses-some}
-use Rattle.simulation.proofs.Touching.{rows-same, empty-four, with-four, kept-more, kept-with}
+use Rattle.automaton.proofs.Rowing.{rules-next}
+use Rattle.simulation.specs.Tree.{any}
+use Rattle.automaton.specs.Row.{ruleAt, rulesIn, Row}
+use Rattle.simulation.specs.Inner.{Answering, Below, touches}
+use Rattle.simulation.proofs.Touching.{Underway, underway-none, underway-pass, underway-same, underway-lost}
+use Rattle.simulation.proofs.Touching.{underway-all, underway-low}
 use Rattle.simulation.proofs.rounds.round.Statement.{statement}
 use Rattle.simulation.proofs.rounds.round.Tie as tie
 
 abbrev Inv-loop : tie.InvT-loop
-Inv-loop first before last next₀ n k ranks rows symbol-head symbol-next target-head target-next lost₀ same₀ q₀ next lost same q =
-    (q ≤ n) × (length next ≡ length next₀)
-    × ((i : ℕ) → i < q → Has (getD next i []) (related (refine (rulesIn ranks rows k) (relationIn last)) i))
-    × (lost ≡ false → (i : ℕ) → i < q → getD next i [] ≡ getD last i [])
-    × (lost ≡ true → refine (rulesIn ranks rows k) (relationIn last) ≡ relationIn last → ⊥)
-    × (length (same .words) ≡ 4)
-    × ((i : ℕ) → i < 256 → member (same .words) i ≡ true → (i < q) × (getD next i [] ≡ getD last i []))
+Inv-loop changed extent words next₀ rows others index lost₀ i₀ next lost i =
+    (i ≤ extent .rules) × (length next ≡ 256)
+    × ((k : ℕ) → Answering k (extent .answering) others index
+    → Underway (extent .asking) (touches (changed .words)) (rulesIn rows i) (rulesIn others k) words next (lost .words))
 
 abbrev μ-loop : tie.MeasureT-loop
-μ-loop first before last next₀ n k ranks rows symbol-head symbol-next target-head target-next lost₀ same₀ q₀ next lost same q = n - q
+μ-loop changed extent words next₀ rows others index lost₀ i₀ next lost i = extent .rules - i
+
+abbrev begin : tie.Then1 Inv-loop μ-loop → tie.Start Inv-loop μ-loop
+begin c = c .before .before .before .before .before .before .before
 
 loop-holds : tie.Need-loop-holds Inv-loop μ-loop
-loop-holds c = (
-  search needs,
-  refl,
-  (λ i h. absurd (omega arith)),
-  (λ e i h. absurd (omega arith)),
-  (λ e. absurd (false≢true e)),
-  rw (c .empty .ensures) empty-four,
-  λ i h is.
-      absurd (false≢true (sym (member-empty i h) ∙ ap (λ (l : List ℕ). member l i) (sym (c .empty .ensures)) ∙ is)),
-)
+unfolding rulesIn from
+loop-holds c =
+    let s = c .before .before .before .before in (
+      omega arith,
+      s .pre .0 .1 .1,
+      λ k a. rw (c .empty .ensures) (underway-none _ _ _ _ _ (s .pre .0 .0) (s .pre .0 .1 .0) (s .pre .1 .1 .1 .0)),
+    )
 
-abbrev begin : tie.In-loop Inv-loop μ-loop → tie.Start Inv-loop μ-loop
-begin c = c .before .before .before
+-- Rule i is one of the rules, and its target has a row.
+row : (c : tie.Then1 Inv-loop μ-loop) → Row (begin c .args .rows .now) (c .before .before .loop .i)
+row c = begin c .pre .1 .0 .0 .row (c .before .before .loop .i) (c .if1 .taken)
 
-low : (c : tie.In-loop Inv-loop μ-loop) → c .before .loop .q < 256
-low c = omega (arith, c .loop-test .taken, begin c .pre .1 .1 .0 .0)
+module _ (c : tie.Then1 Inv-loop μ-loop) (q : ℕ) (at : q ≡ ruleAt (begin c .args .rows .now) (c .before .before .loop .i) .target) where
+  low : q < begin c .args .extent .asking
+  low =
+      subst (λ (p : ℕ). p < begin c .args .extent .asking) (sym at)
+      (begin c .pre .1 .0 .1 (c .before .before .loop .i) (c .if1 .taken))
+
+  row-low : (k : ℕ) → Answering k (begin c .args .extent .answering) (begin c .args .others .now) (begin c .args .index .now)
+      → Below (begin c .args .extent .answering) (getD (c .before .before .loop .next) q [])
+  row-low k a = underway-low _ (begin c .pre .0 .0) (begin c .pre .1 .1 .1 .1) (c .before .before .loop .inv .2 k a) q low
+
+  row-four : length (getD (c .before .before .loop .next) q []) ≡ 4
+  row-four =
+      let k = begin c .pre .1 .1 .0 in
+      c .before .before .loop .inv .2 (k .0) (k .1) .four q low
+
+abbrev turn : tie.After-row2 Inv-loop μ-loop → tie.Then1 Inv-loop μ-loop
+turn c = c .before .before .before .before .before .before
 
 narrow-requires : tie.Need-narrow-requires Inv-loop μ-loop
-narrow-requires c κs = let p = begin c .pre in (p .0, (p .1 .0, low c))
+narrow-requires c κs =
+    let t = turn c in
+    let at = c .before .before .target-of .ensures in
+    let k = begin t .pre .1 .1 .0 in
+    ((row-four t _ at, row t), (k .0, (_, (k .1, row-low t _ at (k .0) (k .1)))))
 
--- A row that differs from its last one lost a pair.
-lost : (c : tie.After-differ Inv-loop μ-loop) → c .differ .result ≡ true
-    → let a = begin (c .before .before .before) .args in
-    let R = relationIn (a .last .now) in
-    refine (rulesIn (a .ranks .now) (a .rows .now) (a .k)) R ≡ R → ⊥
-lost c e f =
-    let i = c .before .before .before in
-    let l = i .before .loop in
-    let a = begin i .args in
-    c .differ .ensures .1 e
-    (λ r h. c .before .before .narrow .ensures r h ∙ ap (λ (S : Relation). related S (l .q) r) f
-    ∙ related-in (a .last .now) (l .q) r (low i) h ∙ ap (λ (w : List ℕ). member w r) (sym (c .before .row .ensures)))
+-- Whether rule i is touched.
+is-touched : (c : tie.After-some-in Inv-loop μ-loop)
+    → let t = c .before .before in
+    touches (begin t .args .changed .words) (ruleAt (begin t .args .rows .now) (t .before .before .loop .i)) ≡ c .some-in .result
+unfolding touches
+is-touched c =
+    sym (c .some-in .ensures ∙ ap (any (member (begin (c .before .before) .args .changed .words))) (c .before .children-of .ensures))
 
-next-long : (c : tie.After-words Inv-loop μ-loop)
-    → let l = c .before .before .before .before .before .before .loop in
-    l .q < length (l .next)
-next-long c =
-    let i = c .before .before .before .before .before in
-    omega (arith, low i, i .before .loop .inv .1, begin i .pre .1 .1 .0 .1)
+-- What holds of the rows and the set after rule i.
+abbrev After : (c : tie.Then1 Inv-loop μ-loop) → List (List ℕ) → List ℕ → Type 0
+After c next lost =
+    let a = begin c .args in
+    (length next ≡ 256)
+    × ((k : ℕ) → Answering k (a .extent .answering) (a .others .now) (a .index .now)
+    → Underway (a .extent .asking) (touches (a .changed .words)) (rulesIn (a .rows .now) (c .before .before .loop .i + 1))
+    (rulesIn (a .others .now) k) (a .words .now) next lost)
 
 loop-again : tie.Need-loop-again Inv-loop μ-loop
 loop-again c =
-    let j = c .before in
-    let d = j .before in
-    let n = d .before .before in
-    let l = n .before .before .loop in
-    let a = begin (n .before) .args in
-    let R = relationIn (a .last .now) in
-    let rules = rulesIn (a .ranks .now) (a .rows .now) (a .k) in
-    let row = n .narrow .result .words in
-    let Kept : List ℕ → Type 0 = λ ws.
-    (i : ℕ) → i < 256 → member ws i ≡ true → (i < l .q + 1) × (getD (set (l .next) (l .q) row) i [] ≡ getD (a .last .now) i []) in (
-      search needs,
-      simp length-set (l .inv .1),
-      filled-more (λ (i : ℕ) (w : List ℕ). Has w (related (refine rules R) i)) [] (l .next) (l .q) row (next-long c)
-          (l .inv .2) (n .narrow .ensures),
-      (λ e.
-          ⊎-elim (λ w. absurd (true≢false (sym (w .1) ∙ e)))
-          (λ w. filled-more (λ (i : ℕ) (v : List ℕ). v ≡ getD (a .last .now) i []) [] (l .next) (l .q) row (next-long c)
-          (l .inv .3 (sym (w .2) ∙ e)) (d .differ .ensures .0 (w .0 .left) ∙ d .before .row .ensures))
-          (j .if1 .came)),
-      (λ e. ⊎-elim (λ w. lost d (w .0 .taken)) (λ w. l .inv .4 (sym (w .2) ∙ e)) (j .if1 .came)),
-      ⊎-elim {C = length (j .if1 .same .words) ≡ 4} (λ w. rw (w .2) (l .inv .5)) (λ w. rw (w .3, w .1 .ensures) (with-four _ _))
-          (j .if1 .came),
-      ⊎-elim {C = Kept (j .if1 .same .words)}
-          (λ w. rw (w .2) (kept-more (a .last .now) (l .next) (l .q) row (l .same .words) (l .inv .6)))
-          (λ w. rw (w .3, w .1 .ensures)
-          (kept-with (a .last .now) (l .next) (l .q) row (l .same .words) (l .inv .6) (next-long c)
-          (d .differ .ensures .0 (w .0 .left) ∙ d .before .row .ensures)))
-          (j .if1 .came),
-    )
+    let t = c .before .before .before in
+    let l = t .before .before .loop in
+    let s = begin t in
+    let u = ruleAt (s .args .rows .now) (l .i) in
+    let after : After t (c .if2 .next) (c .if2 .lost .words) =
+    ⊎-elim {C = After t (c .if2 .next) (c .if2 .lost .words)}
+    (λ w. rw (w .8, w .9, w .7 .ensures) (
+      rw length-set (l .inv .1),
+      λ k a. rw rules-next
+          (underway-lost (l .inv .2 k a) u (w .1 .result) (w .4 .last .0) (is-touched (c .before) ∙ w .0 .taken) (w .1 .ensures)
+          (low t _ (w .1 .ensures)) (s .pre .0 .0) (omega (arith, l .inv .1, s .pre .0 .0)) (w .5 .given)
+          (w .4 .ensures .1 .1 k _ a (row-low t _ (w .1 .ensures) k a)) (w .4 .ensures .1 .0 (w .6 .taken))),
+    ))
+    (⊎-elim {C = After t (c .if2 .next) (c .if2 .lost .words)}
+    (λ w. rw (w .7, w .8) (
+      rw length-set (l .inv .1),
+      λ k a. rw rules-next
+          (underway-same (l .inv .2 k a) u (w .1 .result) (w .4 .last .0) (is-touched (c .before) ∙ w .0 .taken) (w .1 .ensures)
+          (low t _ (w .1 .ensures)) (s .pre .0 .0) (omega (arith, l .inv .1, s .pre .0 .0)) (w .5 .given)
+          (w .4 .ensures .1 .1 k _ a (row-low t _ (w .1 .ensures) k a)) (w .4 .ensures .0 (w .6 .left))),
+    ))
+    (λ w. rw (w .1, w .2) (
+      l .inv .1,
+      λ k a. rw rules-next (underway-pass (l .inv .2 k a) u (is-touched (c .before) ∙ w .0 .left)),
+    ))) (c .if2 .came) in
+    (omega arith, after .0, after .1)
 
 returns : tie.Need-returns Inv-loop μ-loop
-returns c =
-    let l = c .before .loop in
-    let s = c .before .before .before in
-    let a = s .args in
-    let R = relationIn (a .last .now) in
-    let rules = rulesIn (a .ranks .now) (a .rows .now) (a .k) in
-    let end : l .q ≡ a .n = omega arith in
-    let go : (t : Bool) → l .lost ≡ t → t ≡ loses rules R = elim [
-      | true ↦ λ e. sym (loses-some rules R (l .inv .4 e))
-      | false ↦ λ e.
-          sym (loses-none rules R (rows-same (a .n) rules (a .last .now) (s .pre .1 .1 .1)
-          (λ q h. subst (λ (w : List ℕ). Has w (related (refine rules R) q)) (l .inv .3 e q (omega arith)) (l .inv .2 q (omega arith)))))
-    ] in (
-      go (l .lost) refl,
-      record {
-        rows = λ q h. l .inv .2 q (omega arith);
-        four = l .inv .5;
-        kept = λ q h is. let k = l .inv .6 q h is in (omega arith, k .1);
-      },
-    )
+returns c k a quiet =
+    let l = c .before .before .loop in
+    let s = c .before .before .before .before .before .before .before in
+    let end : l .i ≡ s .args .extent .rules = omega arith in
+    underway-all _ _ _ _ _ _ _ (s .pre .0 .0) quiet (rw end at (l .inv .2 k a))
 
 pub round-spec : {M : Type 1} → statement M
 round-spec =
     tie.close
-    (tie.spec Inv-loop μ-loop (λ c κs. search needs) loop-holds narrow-requires (λ c κs. low (c .before))
-    (λ c κs. search needs) (λ c κs. low (c .before .before .before .before)) (λ c. search needs) next-long
-    (λ c. search needs) (λ c. search needs) loop-again (λ c. c .before .loop .inv .1) returns)
+    (tie.spec Inv-loop μ-loop (λ c κs. search needs) loop-holds (λ c κs. row c) (λ c κs. search needs)
+    (λ c κs. row (c .before .before .before)) (λ c. search needs) (λ c. search needs) (λ c. search needs)
+    (λ c. sym (row-four (turn c) _ (c .before .before .target-of .ensures))) narrow-requires
+    (λ c. search needs) (λ c. search needs) (λ c. search needs) (λ c κs. search needs) (λ c. search needs) (λ c. search needs)
+    loop-again (λ c. search needs) returns)

@@ -1,5 +1,5 @@
 -- `tables::case::print_finals` is safe: the states are below 256.
-use Prim.Native.Nat.{_≤_, _<_, _-_}
+use Prim.Native.Nat.{_≤_, _-_}
 use borrow.Author.Needs.{needs}
 use Rattle.tables.proofs.case.print_finals.Statement.{statement}
 use Rattle.tables.proofs.case.print_finals.Tie as tie
@@ -18,6 +18,7 @@ print-finals-spec =
     μ-loop
     (λ c. search needs)
     (λ c κs. search needs)
+    (λ c. search needs)
     (λ c. search needs)
     (λ c κs. search needs)
     (λ c κs. search needs)

@@ -1,29 +1,22 @@
--- `tables::case::print_ranks` is safe: the index stays within the array.
-use Prim.Native.Nat.{_≤_, _<_, _-_}
+-- `tables::case::print_ranks` is safe: the ranks are a part of the array.
 use borrow.Author.Needs.{needs}
+use mathlib.Core.Path.{sym}
+use lib.Seq.{length-take-le}
 use Rattle.tables.proofs.case.print_ranks.Statement.{statement}
 use Rattle.tables.proofs.case.print_ranks.Tie as tie
 
-abbrev Inv-loop : tie.InvT-loop
-Inv-loop ranks m i₀ i = i ≤ 256
-
-abbrev μ-loop : tie.MeasureT-loop
-μ-loop ranks m i₀ i = 256 - i
+slice-aggregate-print-all : tie.Need-slice-aggregate-print-all
+slice-aggregate-print-all c =
+    let start = c .before .before .before .before in
+    sym (length-take-le _ (start .args .ranks .now) (start .pre))
 
 pub print-ranks-spec : {M : Type 1} → statement M
 print-ranks-spec =
     tie.close
     (tie.spec
-    Inv-loop
-    μ-loop
     (λ c. search needs)
     (λ c κs. search needs)
-    (λ c. search needs)
-    (λ c. search needs)
+    slice-aggregate-print-all
     (λ c κs. search needs)
-    (λ c κs. search needs)
-    (λ c. search needs)
-    (λ c. search needs)
-    (λ c. search needs)
     (λ c κs. search needs)
     (λ c. search needs))

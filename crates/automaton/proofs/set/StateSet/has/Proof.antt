@@ -12,4 +12,4 @@ returns c = refl
 pub has-spec : {M : Type 1} → statement M
 has-spec =
     tie.close
-    (tie.spec (λ c. search needs) (λ c. search needs) (λ c. search needs) returns)
+    (tie.spec (λ c. search needs) (λ c. search needs) (λ c. search needs) (λ c. search needs) (λ c. search needs) returns)

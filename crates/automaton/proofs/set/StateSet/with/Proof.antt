@@ -1,22 +1,19 @@
--- The store at word q / 64 is `replaced`, and the shift of 1 loses no bit.
-use Prim.Native.Nat.{_%_}
-use mathlib.Core.Path.{_≡_}
-use native.Mathlib.Omega.{arith}
-use lib.ListN.{length}
-use Rattle.automaton.specs.StateSet.{withState}
-use Rattle.automaton.proofs.StateSets.{one-bit, set-replaced}
+-- Only the word of state q is joined with a bit.
+use lib.Bits.{bitOr, or-zero-r}
+use Rattle.automaton.specs.StateSet.{words, withState}
+use Rattle.automaton.proofs.StateSets.{words-changed}
 use borrow.Author.Needs.{needs}
 use Rattle.automaton.proofs.set.StateSet.with.Statement.{statement}
 use Rattle.automaton.proofs.set.StateSet.with.Tie as tie
 
 returns : tie.Need-returns
-unfolding withState
+unfolding withState words
 returns c =
-    let four : length (c .before .args .self .words) ≡ 4 = search needs in
-    rw (one-bit (c .before .args .q % 64) (omega arith)) (set-replaced _ _ _ four (omega arith))
+    rw (c .bit-in4 .ensures, c .before .bit-in3 .ensures, c .before .before .bit-in2 .ensures, c .before .before .before .bit-in .ensures)
+    (words-changed bitOr or-zero-r _ _ _)
 
 pub with-spec : {M : Type 1} → statement M
 with-spec =
     tie.close
-    (tie.spec (λ c. search needs) (λ c. search needs) (λ c. search needs) (λ c. search needs)
-    (λ c. search needs) returns)
+    (tie.spec (λ c. search needs) (λ c κs. search needs) (λ c. search needs) (λ c κs. search needs)
+    (λ c. search needs) (λ c κs. search needs) (λ c. search needs) (λ c κs. search needs) returns)

@@ -1,22 +1,22 @@
--- The store at word q / 64 is `replaced`, and the shift of 1 loses no bit.
-use Prim.Native.Nat.{_%_}
-use mathlib.Core.Path.{_≡_}
-use native.Mathlib.Omega.{arith}
-use lib.ListN.{length}
-use Rattle.automaton.specs.StateSet.{withoutState}
-use Rattle.automaton.proofs.StateSets.{one-bit, set-replaced}
+-- Only the word of state q is joined with a bit, which is then flipped.
+use Prim.Native.Nat.{ℕ}
+use lib.Bits.{bitOr, bitXor, or-zero-r, xor-zero-r}
+use Rattle.automaton.specs.StateSet.{words, withoutState}
+use Rattle.automaton.proofs.StateSets.{words-changed}
 use borrow.Author.Needs.{needs}
 use Rattle.automaton.proofs.set.StateSet.without.Statement.{statement}
 use Rattle.automaton.proofs.set.StateSet.without.Tie as tie
 
 returns : tie.Need-returns
-unfolding withoutState
+unfolding withoutState words
 returns c =
-    let four : length (c .before .args .self .words) ≡ 4 = search needs in
-    rw (one-bit (c .before .args .q % 64) (omega arith)) (set-replaced _ _ _ four (omega arith))
+    rw (c .bit-in4 .ensures, c .before .bit-in3 .ensures, c .before .before .bit-in2 .ensures, c .before .before .before .bit-in .ensures)
+    (words-changed (λ (w b : ℕ). bitXor (bitOr w b) b) (λ w. rw (xor-zero-r, or-zero-r)) _ _ _)
 
 pub without-spec : {M : Type 1} → statement M
 without-spec =
     tie.close
-    (tie.spec (λ c. search needs) (λ c. search needs) (λ c. search needs) (λ c. search needs)
-    (λ c. search needs) returns)
+    (tie.spec (λ c κs. search needs) (λ c κs. search needs) (λ c κs. search needs) (λ c κs. search needs)
+    (λ c. search needs) (λ c. search needs) (λ c. search needs) (λ c. search needs)
+    (λ c. search needs) (λ c. search needs) (λ c. search needs) (λ c. search needs)
+    (λ c. search needs) (λ c. search needs) (λ c. search needs) (λ c. search needs) returns)

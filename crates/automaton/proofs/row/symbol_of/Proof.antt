@@ -1,0 +1,13 @@
+-- The byte is the one that `ruleAt` reads.
+use borrow.Author.Needs.{needs}
+use mathlib.Core.Path.{refl}
+use Rattle.automaton.specs.Row.{ruleAt}
+use Rattle.automaton.proofs.row.symbol_of.Statement.{statement}
+use Rattle.automaton.proofs.row.symbol_of.Tie as tie
+
+returns : tie.Need-returns
+unfolding ruleAt
+returns c = refl
+
+pub symbol-of-spec : {M : Type 1} → statement M
+symbol-of-spec = tie.close (tie.spec (λ c. search needs) (λ c. search needs) returns)

@@ -1,0 +1,54 @@
+-- `simulation::evaluation::fits` meets its contract: the number says whether the children before the index fit.
+use borrow.Author.Needs.{needs}
+use native.Mathlib.Omega.{arith}
+use Prim.Native.Nat.{_-_, _≤_}
+use mathlib.Core.Path.{_≡_, refl, _∙_}
+use mathlib.Core.Bool.{cond}
+use lib.ListN.{length, take}
+use lib.Seq.{take-all}
+use denote.Ref.{now}
+use Rattle.simulation.specs.Inner.{inOrder}
+use Rattle.simulation.proofs.Targets.{both-bits, in-order-next, in-order-two}
+use Rattle.simulation.proofs.evaluation.fits.Statement.{statement}
+use Rattle.simulation.proofs.evaluation.fits.Tie as tie
+
+abbrev Inv-loop : tie.InvT-loop
+Inv-loop sets children bit₀ j₀ bit j = (j ≤ length children) × (bit ≡ cond (inOrder sets (take j children)) 1 0)
+
+abbrev μ-loop : tie.MeasureT-loop
+μ-loop sets children bit₀ j₀ bit j = length children - j
+
+returns : tie.Need-returns Inv-loop μ-loop
+returns c =
+    let first = c .before .before in
+    let two = first .before .before in
+    let a = two .before .before .before .args in
+    rw (c .bit-at2 .ensures, first .bit-at .ensures, both-bits, in-order-two (now (a .sets)) (now (a .children)) (two .if1 .taken))
+
+loop-holds : tie.Need-loop-holds Inv-loop μ-loop
+unfolding inOrder
+loop-holds c = (omega arith, refl)
+
+loop-again : tie.Need-loop-again Inv-loop μ-loop
+loop-again c =
+    let t = c .before .before in
+    let a = t .before .before .before .before .before .args in (
+      omega (arith, t .loop-test .taken),
+      rw (
+        c .bit-at3 .ensures,
+        t .before .loop .inv .1,
+        both-bits,
+        in-order-next (now (a .sets)) (now (a .children)) _ (t .loop-test .taken),
+      ),
+    )
+
+returns-2 : tie.Need-returns-2 Inv-loop μ-loop
+returns-2 c =
+    let s = c .before .before .before .before .before in
+    c .before .loop .inv .1 ∙ rw (take-all (c .before .loop .j) (now (s .args .children)) (c .loop-test .left))
+
+pub fits-spec : {M : Type 1} → statement M
+fits-spec =
+    tie.close
+    (tie.spec Inv-loop μ-loop (λ c. search needs) (λ c κs. search needs) (λ c. search needs) (λ c κs. search needs) returns loop-holds
+    (λ c. search needs) (λ c κs. search needs) (λ c. search needs) (λ c. search needs) loop-again returns-2)

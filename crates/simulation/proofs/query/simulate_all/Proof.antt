@@ -1,0 +1,51 @@
+-- The index by target, and the simulation on all states with it.
+use mathlib.Core.Path.{_≡_}
+use borrow.Author.Needs.{needs}
+use Rattle.automaton.specs.Lists.{from}
+use Rattle.simulation.specs.Words.{statesIn}
+use Rattle.simulation.specs.Index.{keyOf}
+use Rattle.simulation.specs.Inner.{Answering}
+use Rattle.simulation.proofs.RelationWords.{all-states-in}
+use Rattle.simulation.proofs.Queries.{target-below}
+use Rattle.simulation.proofs.query.simulate_all.Statement.{statement}
+use Rattle.simulation.proofs.query.simulate_all.Tie as tie
+
+index-rules-requires : tie.Need-index-rules-requires
+unfolding keyOf
+index-rules-requires c κs =
+    let start = c .before .before .before in
+    let asked = start .pre .0 in
+    ((asked .1 .0, (asked .0, asked .1 .1)), target-below _ _ _ (start .pre .1 .0))
+
+all : (c : tie.After-all-states)
+    → let size = c .before .before .before .before .before .before .before .args .size in
+    statesIn (size .states) (c .all-states .result .words) ≡ from 0 (size .states)
+all c =
+    let start = c .before .before .before .before .before .before .before in
+    rw (c .all-states .ensures) (all-states-in (start .args .size .states) (start .pre .0 .0))
+
+indexed : (c : tie.After-index-rules)
+    → let args = c .before .before .before .before .args in
+    Answering (args .size .rules) (args .size .states) (args .rows .now) (c .index-rules .last .1 .1 .1 .1 .0)
+unfolding keyOf
+indexed c =
+    let asked = c .before .before .before .before .pre .0 in
+    record { states = asked .0; rules = asked .1 .0; index-is = c .index-rules .ensures }
+
+simulate-requires : tie.Need-simulate-requires
+simulate-requires c κs =
+    let set = c .before .before in
+    let made = set .before .before .before in
+    let start = made .before .before .before .before in
+    (indexed made, (rw (all set) (start .pre .1 .0), start .pre .1 .1))
+
+returns : tie.Need-returns
+returns c =
+    let set = c .before .before .before in
+    let made = set .before .before .before in
+    (rw (all set) at (c .simulate .ensures .0), (rw (all set) at (c .simulate .ensures .1), indexed made))
+
+pub simulate-all-spec : {M : Type 1} → statement M
+simulate-all-spec =
+    tie.close
+    (tie.spec index-rules-requires (λ c κs. search needs) simulate-requires (λ c. search needs) returns)
