@@ -66,6 +66,11 @@ pub in-order-next : (sets children : List ℕ) (j : ℕ) → j < length children
 in-order-next sets children j h =
     rw (add-one, take-suc children j 0 h, in-order-append sets (take j children), length-take-le j children (omega arith))
 
+pub in-order-one : (sets children : List ℕ) → length children ≡ 1 → inOrder sets children ≡ member (entryAt sets 0) (getD children 0 0)
+unfolding inOrder
+in-order-one sets children one =
+    ap (inOrder sets) (sym (take-all 1 children (omega arith))) ∙ in-order-next sets children 0 (omega arith)
+
 pub in-order-two : (sets children : List ℕ) → length children ≡ 2
     → inOrder sets children ≡ (member (entryAt sets 0) (getD children 0 0) && member (entryAt sets 1) (getD children 1 0))
 unfolding inOrder

@@ -48,11 +48,14 @@ fn bit_at(sets: &[u64], e: usize, q: u8) -> u64
     (sets[4 * e + i / 64] >> (i % 64)) % 2
 }
 
-// 1 if the children are in the sets, one each and in order, and 0 if not. Two children, the most frequent case, go without a loop.
+// 1 if the children are in the sets, one each and in order, and 0 if not. One or two children, the most frequent cases, go without a loop.
 fn fits(sets: &[u64], children: &[u8]) -> u64
     requires { ⌜ 4 * length (now children) ≤ length (now sets) ⌝ }
     ensures { λ r. ⌜ r ≡ cond (inOrder (now (sets .entry)) (now (children .entry))) 1 0 ⌝ }
 {
+    if children.len() == 1 {
+        return bit_at(sets, 0, children[0]);
+    }
     if children.len() == 2 {
         return bit_at(sets, 0, children[0]) & bit_at(sets, 1, children[1]);
     }
