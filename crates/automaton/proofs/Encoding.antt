@@ -116,10 +116,10 @@ rising-count : {n a : ℕ} {xs : List ℕ} → Rising (a ∷ xs) → All (λ (q 
 rising-count single (also h hs) = omega arith
 rising-count (step l r) (also h hs) = omega (arith, rising-count r hs)
 
-finals-few : {n : ℕ} {xs : List ℕ} → Rising xs → All (λ (q : ℕ). q < n) xs → length xs ≤ n
-finals-few empty hs = omega arith
-finals-few single hs = omega (arith, rising-count single hs)
-finals-few (step l r) hs = omega (arith, rising-count (step l r) hs)
+pub rising-short : {n : ℕ} {xs : List ℕ} → Rising xs → All (λ (q : ℕ). q < n) xs → length xs ≤ n
+rising-short empty hs = omega arith
+rising-short single hs = omega (arith, rising-count single hs)
+rising-short (step l r) hs = omega (arith, rising-count (step l r) hs)
 
 pub children-few : (A : Automaton) (u : Rule) → WellFormed A → WellFormedRule A u → length (u .children) ≤ 8
 children-few A u w r = omega (arith, all-at (w .ranks) (u .symbol) (r .symbol))
@@ -175,7 +175,7 @@ module _ (A : Automaton) (w : WellFormed A) where
   finals-judged =
       let body : List ℕ = fields (A .finals) in
       let more : List ℕ = encodeRules (A .rules) in
-      let short : length body + 2 < 4294967296 = rw length-fields (omega (arith, finals-few (w .rising) (w .finals))) in
+      let short : length body + 2 < 4294967296 = rw length-fields (omega (arith, rising-short (w .rising) (w .finals))) in
       let same : bodyOf (encodeRecord 3 body ++ more) ≡ body = record-body 3 body more short (omega arith) in
       let read : numbers (bodyOf (encodeRecord 3 body ++ more)) ≡ A .finals =
       ap numbers same ∙ states-read _ (w .states) (w .finals) in
@@ -268,4 +268,4 @@ pub encode-length : (A : Automaton) → WellFormed A → (24 ≤ length (encode 
 unfolding encode
 encode-length A w =
     simp (length-record-more, length-fields)
-    (omega (arith, rules-length A w (w .rules), finals-few (w .rising) (w .finals)))
+    (omega (arith, rules-length A w (w .rules), rising-short (w .rising) (w .finals)))

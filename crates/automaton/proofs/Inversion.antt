@@ -4,7 +4,7 @@ use Prim.Native.Nat.{ℕ, zero, suc, _+_, _*_, _%_, _≤_, _<_}
 use native.Mathlib.Omega.{arith}
 use mathlib.Core.Path.{_≡_, refl, sym, ap, _∙_}
 use mathlib.Core.List.{List, [], _∷_}
-use mathlib.Core.Bool.{Bool, true, false, _&&_, false≢true}
+use mathlib.Core.Bool.{Bool, true, false, and-eq-true-iff}
 use lib.ListN.{length, drop, getD}
 use lib.Dec.{leb, ltb, eqb}
 use borrow.Author.Tests.{ltb-true, leb-true, eqb-true, lt-ltb, le-leb, eq-eqb}
@@ -63,15 +63,11 @@ due-found kind missing b h = dueIn-found kind missing (opened b) h
 
 -- Tests of lists.
 
-both-true : (s t : Bool) → (s && t) ≡ true → (s ≡ true) × (t ≡ true)
-both-true true t h = (refl, h)
-both-true false t h = absurd (false≢true h)
-
 module _ (t : ℕ → Bool) (P : ℕ → Type 0) where
   all→All : ((x : ℕ) → t x ≡ true → P x) → (xs : List ℕ) → all t xs ≡ true → All P xs
   unfolding all
   all→All f [] h = none
-  all→All f (x ∷ xs) h = let c = both-true (t x) (all t xs) h in also (f x (c .0)) (all→All f xs (c .1))
+  all→All f (x ∷ xs) h = let c = and-eq-true-iff (t x) (all t xs) .0 h in also (f x (c .0)) (all→All f xs (c .1))
 
   All→all : ((x : ℕ) → P x → t x ≡ true) → {xs : List ℕ} → All P xs → all t xs ≡ true
   unfolding all
@@ -82,7 +78,7 @@ risingFrom→Rising : (a : ℕ) (xs : List ℕ) → risingFrom a xs ≡ true →
 unfolding risingFrom
 risingFrom→Rising a [] h = single
 risingFrom→Rising a (b ∷ xs) h =
-    let c = both-true (ltb a b) (risingFrom b xs) h in
+    let c = and-eq-true-iff (ltb a b) (risingFrom b xs) .0 h in
     step (ltb-true a b (c .0)) (risingFrom→Rising b xs (c .1))
 
 rising→Rising : (xs : List ℕ) → rising xs ≡ true → Rising xs

@@ -31,10 +31,6 @@ module _ {b : List ℕ} {size : Size} {finals ranks rows : List ℕ} (held : Hel
   pub held-well-formed : WellFormed (automatonIn size finals ranks rows)
   held-well-formed = rw (held .holds) (held .well-formed)
 
-  pub held-symbols : size .symbols ≤ 256
-  unfolding sizeOf
-  held-symbols = rw (held .counts) (held .well-formed .symbols)
-
   pub held-ranks : size .symbols ≤ length ranks
   unfolding automatonIn sizeOf
   held-ranks =

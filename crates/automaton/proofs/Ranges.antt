@@ -1,12 +1,13 @@
--- Repeated elements and ranges of numbers: what holds of all their elements, a range's members, and that a range rises.
+-- Repeated elements and ranges of numbers: what holds of all their elements, a range's members and parts, and that a range rises.
 use Prim.Native.Nat.{ℕ, zero, suc, _+_, _≤_, _<_}
 use native.Mathlib.Decide.{ℕ-discrete}
-use native.Mathlib.Numerals.{add-one}
+use native.Mathlib.Nat.{add-zero, add-suc, suc-add, zero-add}
 use native.Mathlib.Omega.{arith}
-use mathlib.Core.Path.{_≡_, refl, ap, ap₂, _∙_}
-use mathlib.Core.List.{[], _∷_, _++_, List·Memᴰ, List·Memᴰ·head, List·Memᴰ·tail, List·Memᴰ·not-nil}
+use mathlib.Core.Path.{_≡_, refl, ap}
+use mathlib.Core.List.{List, [], _∷_, _++_, List·Memᴰ, List·Memᴰ·head, List·Memᴰ·tail, List·Memᴰ·not-nil}
+use mathlib.Core.Bool.{Bool, false}
 use lib.ListN.{length, replicate}
-use Rattle.automaton.specs.Lists.{All, none, also, Rising, empty, single, step, from}
+use Rattle.automaton.specs.Lists.{All, none, also, Rising, empty, single, step, Distinct, bare, new, from, keep}
 
 pub replicate-all : {A : Type 0} {P : A → Type 0} (n : ℕ) (x : A) → P x → All P (replicate n x)
 replicate-all zero x p = none
@@ -28,13 +29,14 @@ unfolding from
 length-from i zero = refl
 length-from i (suc n) = ap suc (length-from (suc i) n)
 
+pub from-append : (i a b : ℕ) → from i (a + b) ≡ from i a ++ from (i + a) b
+unfolding from
+from-append i zero b = rw (zero-add, add-zero)
+from-append i (suc a) b = rw (suc-add, add-suc, ← suc-add) (ap (λ (l : List ℕ). i ∷ l) (from-append (suc i) a b))
+
 pub from-step : (i n : ℕ) → from i (n + 1) ≡ from i n ++ ((i + n) ∷ [])
 unfolding from
-from-step i n = rw add-one (go i n)
-  where
-    go : (i n : ℕ) → from i (suc n) ≡ from i n ++ ((i + n) ∷ [])
-    go i zero = ap (λ (j : ℕ). j ∷ []) (omega arith)
-    go i (suc n) = ap₂ _∷_ refl (go (suc i) n ∙ ap (λ (j : ℕ). from (suc i) n ++ (j ∷ [])) (omega arith))
+from-step i n = from-append i n 1
 
 pub from-member : (n i q : ℕ) → i ≤ q → q < i + n → List·Memᴰ q (from i n)
 unfolding from
@@ -48,3 +50,14 @@ unfolding from
 member-from zero i q m = absurd (List·Memᴰ·not-nil m)
 member-from (suc n) i q (List·Memᴰ·head e) = (omega arith, omega arith)
 member-from (suc n) i q (List·Memᴰ·tail m) = let h = member-from n (suc i) q m in (omega arith, omega arith)
+
+pub from-distinct : (i n : ℕ) → Distinct (from i n)
+unfolding from
+from-distinct i zero = bare
+from-distinct i (suc n) = new (λ m. let h = member-from n (suc i) i m in omega arith) (from-distinct (suc i) n)
+
+pub keep-none : (f : ℕ → Bool) (i n : ℕ) → ((r : ℕ) → i ≤ r → r < i + n → f r ≡ false) → keep f (from i n) ≡ []
+unfolding keep from
+keep-none f i zero h = refl
+keep-none f i (suc n) h =
+    rw (h i (omega arith) (omega arith)) (keep-none f (suc i) n (λ r a b. h r (omega arith) (omega arith)))

@@ -7,7 +7,7 @@ use mathlib.Core.Bool.{true≢false, false≢true, or-comm, or-true, or-false, a
 use native.Mathlib.Nat.{one-mul, zero-div, pow-suc}
 use native.Mathlib.Numerals.{one-add}
 use native.Mathlib.Omega.{arith}
-use lib.ListN.{length, getD, set}
+use lib.ListN.{length, getD}
 use lib.Seq.{ext-getD}
 use lib.Dec.{eqb, eqb·zero-suc, eqb·suc-zero, eqb·suc-suc}
 use lib.Pow.{shl-exact, shr-shr}
@@ -39,12 +39,6 @@ pub words-getD : (ws : List ℕ) → length ws ≡ 4 → ws ≡ words (λ (i : �
 words-getD ws e =
     ext-getD 0 ws (words (λ (i : ℕ). getD ws i 0)) (e ∙ sym (length-words _))
     (λ i h. sym (getD-words (λ (j : ℕ). getD ws j 0) i (omega arith)))
-
-pub set-replaced : (ws : List ℕ) (i w : ℕ) → length ws ≡ 4 → i < 4 → set ws i w ≡ replaced ws i w
-unfolding words replaced
-set-replaced ws i w e h =
-    let vs : List ℕ = words (λ (k : ℕ). getD ws k 0) in
-    rw (words-getD ws e) (below-four (λ (j : ℕ). set vs j w ≡ replaced vs j w) refl refl refl refl i h)
 
 -- An operation with a number in one word and 0 in the others, where 0 changes nothing.
 pub words-changed : (f : ℕ → ℕ → ℕ) → ((w : ℕ) → f w 0 ≡ w) → (ws : List ℕ) (i p : ℕ)
@@ -188,12 +182,6 @@ member-union ws vs r h = member-words _ r h ∙ bit-or _ _ (r % 64)
 pub member-meet : (ws vs : List ℕ) (r : ℕ) → r < 256 → member (meetOf ws vs) r ≡ (member ws r && member vs r)
 unfolding meetOf member bit
 member-meet ws vs r h = member-words _ r h ∙ bit-and _ _ (r % 64)
-
--- The first set without the second.
-pub member-minus : (ws vs : List ℕ) (r : ℕ) → r < 256
-    → member (words (λ (i : ℕ). bitXor (bitOr (getD ws i 0) (getD vs i 0)) (getD vs i 0))) r ≡ (not (member vs r) && member ws r)
-unfolding member bit
-member-minus ws vs r h = member-words _ r h ∙ rw (bit-xor, bit-or) (set-then-flipped (member ws r) (member vs r))
 
 -- Sets of lists.
 

@@ -2,13 +2,13 @@
 use Prim.Native.Nat.{ℕ, _≤_, _<_}
 use mathlib.Core.Path.{_≡_, subst}
 use mathlib.Core.List.{List}
-use mathlib.Core.Bool.{false, not, _&&_, _||_}
+use mathlib.Core.Bool.{true, false, not, _&&_, _||_}
 use lib.ListN.{length, getD}
 use lib.Dec.{eqb}
 use Rattle.automaton.specs.Automaton.{Automaton, WellFormed}
 use Rattle.automaton.specs.Read.{found, refused}
 use Rattle.automaton.specs.Table.{judge, encode}
-use Rattle.automaton.specs.StateSet.{member, emptySet, withState, withoutState, unionOf}
+use Rattle.automaton.specs.StateSet.{member, emptySet, withState, withoutState, unionOf, meetOf, sameSet}
 use Rattle.automaton.specs.Row.{Rows}
 use Rattle.automaton.specs.Decoded.{automatonIn, written, writtenOver, Decodes}
 use Rattle.automaton.specs.declared.decoding.Decoded.{Decoded}
@@ -65,7 +65,7 @@ decoded-encodes = meaning.decoded-encodes
 pub writing-leaves : (bytes out : List ℕ) (cause : ℕ) → written bytes out ≡ refused cause → writtenOver bytes out ≡ out
 writing-leaves = leaving.written-keeps
 
--- The members of the empty set, of a set with a state, of a set without one, and of a union.
+-- The members of the empty set, of a set with a state, of a set without one, of a union and of the common states; sets that are the same.
 pub empty-members : (r : ℕ) → r < 256 → member emptySet r ≡ false
 empty-members = sets.member-empty
 
@@ -77,3 +77,9 @@ without-members = sets.member-without
 
 pub union-members : (ws vs : List ℕ) (r : ℕ) → r < 256 → member (unionOf ws vs) r ≡ (member ws r || member vs r)
 union-members = sets.member-union
+
+pub meet-members : (ws vs : List ℕ) (r : ℕ) → r < 256 → member (meetOf ws vs) r ≡ (member ws r && member vs r)
+meet-members = sets.member-meet
+
+pub same-sets : (ws vs : List ℕ) → length ws ≡ 4 → length vs ≡ 4 → sameSet ws vs ≡ true → ws ≡ vs
+same-sets = sets.same-set-out

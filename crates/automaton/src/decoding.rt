@@ -29,7 +29,7 @@ use crate::table::size_end;
 use crate::table::size_in;
 use crate::writing::put_bytes;
 
-// What judging a table returns, and its final states: none where it is refused.
+// What judging a table returns, and its final states, which mean nothing where it is refused.
 pub struct Decoded {
     pub judged: Judged,
     pub finals: StateSet,

@@ -22,7 +22,8 @@ pub use table::judge;
 // Exported for the crates above: these ask for numbers or arrays in range.
 pub use decoding::Decoded;
 pub use decoding::decode;
-pub use row::WIDTH;
+pub use row::FEW_ROWS;
+pub use row::ROWS;
 pub use row::children_of;
 pub use row::children_of_rank;
 pub use row::move_row;

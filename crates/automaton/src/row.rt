@@ -10,6 +10,11 @@ ghost use Rattle.automaton.specs.Inner.{RuleBody};
 // The bytes of a rule: its symbol, its target, the number of its children, and room for eight children.
 pub const WIDTH: usize = 11;
 
+// The bytes of 1,024 rules, the most that a table has, and of 128.
+pub const ROWS: usize = 1024 * WIDTH;
+
+pub const FEW_ROWS: usize = 128 * WIDTH;
+
 // The symbol of rule i.
 pub fn symbol_of(rows: &[u8], i: usize) -> u8
     requires { ⌜ Row (now rows) i ⌝ }

@@ -1,7 +1,7 @@
 // A decoded table written back into bytes. Each function that writes says which bytes stand where afterwards; the others stay.
 ghost use mathlib.Core.Path.{_≡_};
 ghost use mathlib.Core.List.{_∷_, [], _++_};
-ghost use Prim.Native.Nat.{ℕ, _+_, _*_, _≤_, _<_};
+ghost use Prim.Native.Nat.{_+_, _*_, _≤_, _<_};
 ghost use lib.ListN.{length, take};
 ghost use Rattle.automaton.specs.Lists.{from, keep};
 ghost use Rattle.automaton.specs.Bytes.{bytes2, bytes4, fields};

@@ -187,10 +187,6 @@ module _ (A : Automaton) (w : WellFormed A) where
   IsKept : ℕ → Type 0
   IsKept y = List·Memᴰ y (shortened (trimmed A) .states)
 
-  place-low : (y : ℕ) → IsKept y → place y < reduce A .states
-  unfolding reduce numbered place IsKept
-  place-low = numbering.position-low (shortened (trimmed A) .states) (sound-shortened (trimmed A) sound .rising)
-
   place-onto : (i : ℕ) → i < reduce A .states → (y : ℕ) × IsKept y × (place y ≡ i)
   unfolding reduce numbered place IsKept
   place-onto = numbering.position-onto (shortened (trimmed A) .states) (sound-shortened (trimmed A) sound .rising)

@@ -3,7 +3,7 @@ use Prim.Native.Nat.{ℕ, zero, suc}
 use native.Mathlib.Nat.{zero-add}
 use native.Mathlib.Numerals.{add-one}
 use mathlib.Core.Path.{_≡_, refl, sym, ap, _∙_}
-use mathlib.Core.List.{List, [], _∷_, _++_, map, List·Memᴰ, List·Memᴰ·head, List·Memᴰ·tail, List·Memᴰ·not-nil, Memᴰ·cast}
+use mathlib.Core.List.{List, [], _∷_, map, List·Memᴰ, List·Memᴰ·head, List·Memᴰ·tail, List·Memᴰ·not-nil, Memᴰ·cast}
 use mathlib.Core.Bool.{Bool, true, false, cond, not, _&&_, _||_, false≢true}
 use Rattle.automaton.specs.Lists.{Distinct, bare, new, from, keep}
 use Rattle.automaton.specs.Automaton.{Rule}
@@ -11,6 +11,7 @@ use Rattle.automaton.proofs.Keeping.{keep-both, keep-agree, keep-all, keep-in, 
 use Rattle.automaton.proofs.Distinctness.{keep-distinct}
 use Rattle.automaton.proofs.Ranges.{from-step}
 use Rattle.simulation.specs.Tree.{any}
+use Rattle.simulation.proofs.Search.{any-append}
 use Rattle.reduction.specs.Steps.{sameRule, firsts}
 use Rattle.reduction.proofs.Members.{same-rule-out, same-rule-refl}
 
@@ -54,15 +55,6 @@ firsts-same (u ∷ us) (new h d) =
     go v m false e = refl
 
 -- The first ones by their places: those that no element before them is equal to.
-
-any-append : {A : Type 0} (test : A → Bool) (xs ys : List A) → any test (xs ++ ys) ≡ (any test xs || any test ys)
-unfolding any
-any-append test [] ys = refl
-any-append test (x ∷ xs) ys = go (test x) (any-append test xs ys)
-  where
-    go : (t : Bool) → any test (xs ++ ys) ≡ (any test xs || any test ys) → (t || any test (xs ++ ys)) ≡ ((t || any test xs) || any test ys)
-    go true e = refl
-    go false e = e
 
 module _ (f : ℕ → Rule) where
   -- Rule i is new, and so is a rule that stands after i.

@@ -1,6 +1,6 @@
 -- Passes over the rules that let a set of states grow: what one adds, and that the set ends as the closure, which lies between what
 -- some times find and what the set can hold.
-use Prim.Native.Nat.{ℕ, suc, _+_, _≤_, _<_}
+use Prim.Native.Nat.{ℕ, _+_, _≤_, _<_}
 use native.Mathlib.Numerals.{add-one}
 use native.Mathlib.Omega.{arith}
 use mathlib.Core.Path.{_≡_, refl, sym, ap, _∙_}
@@ -12,7 +12,7 @@ use lib.ListN.{length, drop, getD, drop-of-length-le}
 use lib.Seq.{drop-cons}
 use lib.Dec.{eqb}
 use borrow.Author.Tests.{eq-eqb, eqb-true}
-use Rattle.automaton.specs.Lists.{All, also, Rising, single, step, all, from}
+use Rattle.automaton.specs.Lists.{all, from}
 use Rattle.automaton.specs.Automaton.{Rule}
 use Rattle.automaton.specs.StateSet.{member, emptySet, withState}
 use Rattle.automaton.specs.Row.{ruleAt, rulesIn}
@@ -21,6 +21,7 @@ use Rattle.automaton.proofs.Ranges.{length-from, from-member}
 use Rattle.automaton.proofs.Rowing.{rule-in, rules-each, rules-next, rule-low}
 use Rattle.automaton.proofs.StateSets.{member-empty, member-with, same-test}
 use Rattle.automaton.proofs.Keeping.{keep-out}
+use Rattle.automaton.proofs.Encoding.{rising-short}
 use Rattle.simulation.specs.Tree.{any}
 use Rattle.simulation.specs.Inner.{Has}
 use Rattle.simulation.proofs.Search.{and-true-in, and-true-out, or-true-left, or-true-right, or-true-out, all-in, all-out}
@@ -267,14 +268,6 @@ module _ (rules : List Rule) (n : ℕ) (low : (u : Rule) → List·Memᴰ u rule
 
 -- Needed states.
 
-rising-few : (n : ℕ) {xs : List ℕ} → Rising xs → All (λ (q : ℕ). q < n) xs → length xs ≤ n
-rising-few n {xs = []} r h = omega arith
-rising-few n {xs = x ∷ xs} r h = omega (arith, go r h)
-  where
-    go : {x : ℕ} {xs : List ℕ} → Rising (x ∷ xs) → All (λ (q : ℕ). q < n) (x ∷ xs) → x + suc (length xs) ≤ n
-    go single (also h hs) = omega arith
-    go (step l r) (also h hs) = omega (arith, go r hs)
-
 module _ (S : Stage) (sound : Sound S) where
   -- The set has the final states from the first on.
   pub record Collected (times : ℕ) (set : List ℕ) : Type 0 where
@@ -316,4 +309,4 @@ module _ (S : Stage) (sound : Sound S) where
   unfolding kept
   needed-ended times set c h =
       between-ended (needed S) (S .states) times set (c .between) (needed-monotone S)
-      (omega (arith, rising-few 256 (sound .rising) (sound .low)))
+      (omega (arith, rising-short (sound .rising) (sound .low)))

@@ -13,6 +13,7 @@ use Rattle.automaton.proofs.Ranges.{from-rising, from-member, member-from}
 use Rattle.automaton.proofs.Rowing.{rule-in}
 use Rattle.simulation.specs.Words.{statesIn}
 use Rattle.simulation.specs.Inner.{Has}
+use Rattle.simulation.proofs.Beginning.{states-low}
 use Rattle.reduction.specs.Steps.{Stage, among}
 use Rattle.reduction.specs.Inner.{Sound, marked, stageIn}
 use Rattle.reduction.proofs.Members.{among-in, among-out, rising-keep, rising-same}
@@ -31,10 +32,6 @@ marked-rules rows k marks test h =
     ∙ sym (keep-map test (ruleAt rows) (from 0 k))
 
 -- Sets of states.
-
-pub states-low : (n : ℕ) (set : List ℕ) (q : ℕ) → List·Memᴰ q (statesIn n set) → q < n
-unfolding statesIn
-states-low n set q m = below-range n q (keep-out (member set) (from 0 n) m .0)
 
 pub set-states : (words xs : List ℕ) (n : ℕ) → n ≤ 256 → Rising xs → ((q : ℕ) → List·Memᴰ q xs → q < n) → Has words (among xs)
     → statesIn n words ≡ xs

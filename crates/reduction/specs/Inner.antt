@@ -1,10 +1,10 @@
 -- What the contracts of inner functions cite; neither `reduce` nor `report` cites any of it. Places that an array does not have, where
 -- `getD` would give its default, are ruled out by the bounds in the contracts that cite these.
-use Prim.Native.Nat.{ℕ, _≤_, _<_}
+use Prim.Native.Nat.{ℕ, _<_}
 use mathlib.Core.Path.{_≡_}
 use mathlib.Core.List.{List, [], _∷_, _++_, List·Memᴰ}
 use mathlib.Core.Bool.{Bool, true, false, not, _&&_}
-use lib.ListN.{length, getD}
+use lib.ListN.{getD}
 use Rattle.automaton.specs.Lists.{All, Rising, all, from, keep}
 use Rattle.automaton.specs.Automaton.{Rule}
 use Rattle.automaton.specs.StateSet.{member}

@@ -9,6 +9,7 @@ ghost use Rattle.reduction.specs.Report as spec;
 ghost use Rattle.reduction.specs.Inner.{reducedLines};
 use crate::steps::reduce_rows;
 use automaton::Judged;
+use automaton::ROWS;
 use automaton::Size;
 use automaton::decode;
 use automaton::number;
@@ -136,7 +137,7 @@ fn report_on(table: &[u8], out: &mut [u8]) -> usize
     ensures { λ r. ⌜ now (out .exit) ≡ over (now (out .entry)) 0 (spec.reportOf (judge (now (table .entry)))) ⌝ }
 {
     let mut ranks: [u8; 256] = [0; 256];
-    let mut rows: [u8; 11264] = [0; 11264];
+    let mut rows: [u8; ROWS] = [0; ROWS];
     let decoded = decode(table, &mut ranks, &mut rows);
     let finals = decoded.finals;
     let judged = decoded.judged;

@@ -1,7 +1,6 @@
 // Marks of the rules that a step keeps.
 ghost use mathlib.Core.Path.{_≡_};
 ghost use mathlib.Core.Bool.{not, _&&_};
-ghost use mathlib.Core.List.{List·Memᴰ};
 ghost use Prim.Native.Nat.{ℕ, _≤_, _<_};
 ghost use lib.ListN.{length};
 ghost use Rattle.automaton.specs.Lists.{all};
@@ -17,6 +16,7 @@ use automaton::StateSet;
 use automaton::children_of;
 use automaton::symbol_of;
 use automaton::target_of;
+use simulation::INDEX;
 use simulation::Key;
 use simulation::all_in;
 use simulation::index_rules;
@@ -104,7 +104,7 @@ pub fn mark_firsts(rows: &[u8], k: usize, n: usize, marks: &mut [bool])
     requires { ⌜ (n ≤ 256) × ((i : ℕ) → i < k → ruleAt (now rows) i .target < n) ⌝ }
     ensures { λ _. ⌜ ((i : ℕ) → i < k → marked (now (marks .exit)) i ≡ isFirst (now (rows .entry)) i) ⌝ }
 {
-    let mut index: [u16; 1281] = [0; 1281];
+    let mut index: [u16; INDEX] = [0; INDEX];
     index_rules(rows, k, Key::Target, n, &mut index);
     let mut i: usize = 0;
     while i < k {
@@ -151,7 +151,7 @@ pub fn mark_undominated(words: &[u64; 1024], rows: &[u8], k: usize, n: usize, ma
     ensures { λ _. ⌜ ((i : ℕ) → i < k → marked (now (marks .exit)) i
         ≡ not (dominated (relationIn (now (words .entry))) (rulesIn (now (rows .entry)) k) (ruleAt (now (rows .entry)) i))) ⌝ }
 {
-    let mut index: [u16; 1281] = [0; 1281];
+    let mut index: [u16; INDEX] = [0; INDEX];
     index_rules(rows, k, Key::Target, n, &mut index);
     let mut i: usize = 0;
     while i < k {

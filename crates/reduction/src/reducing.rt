@@ -5,6 +5,7 @@ ghost use Rattle.reduction.specs.Reduce.{reductionOf, reduction, reducti
 ghost use Rattle.reduction.specs.Demand3.{MeetsDemand3};
 use crate::steps::reduce_rows;
 use automaton::Judged;
+use automaton::ROWS;
 use automaton::Refusal;
 use automaton::Written;
 use automaton::decode;
@@ -34,7 +35,7 @@ pub fn reduce(table: &[u8], out: &mut [u8]) -> Reduced
     ensures { λ r. ⌜ MeetsDemand3 (now (table .entry)) (now (out .entry)) r (now (out .exit)) ⌝ }
 {
     let mut ranks: [u8; 256] = [0; 256];
-    let mut rows: [u8; 11264] = [0; 11264];
+    let mut rows: [u8; ROWS] = [0; ROWS];
     let decoded = decode(table, &mut ranks, &mut rows);
     let finals = decoded.finals;
     let judged = decoded.judged;

@@ -25,6 +25,7 @@ use crate::rows::compact;
 use crate::rows::rename_rules;
 use automaton::Size;
 use automaton::StateSet;
+use simulation::INDEX;
 use simulation::Key;
 use simulation::Relation;
 use simulation::index_rules;
@@ -209,7 +210,7 @@ fn simulate_left(states: StateSet, size: Size, rows: &[u8], words: &mut [u64; 10
     ensures { λ r. ⌜ relationIn (now (words .exit)) ≡ simulation.relation
         (rulesIn (now (rows .entry)) (size .rules)) (statesIn (size .states) (states .words)) ⌝ }
 {
-    let mut index: [u16; 1281] = [0; 1281];
+    let mut index: [u16; INDEX] = [0; INDEX];
     index_rules(rows, size.rules, Key::Target, size.states, &mut index);
     simulate(states, size, rows, &index, words)
 }

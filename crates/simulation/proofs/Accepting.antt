@@ -17,8 +17,7 @@ use Rattle.automaton.specs.Row.{ruleAt, rulesIn, Rows}
 use Rattle.automaton.specs.StateSet.{member, words, emptySet, meetOf, sameSet, withAll, setOf}
 use Rattle.automaton.specs.Read.{Read, found, refused, _>>=_, _>>_, check, mapRead}
 use Rattle.automaton.specs.Table.{judge, encodeRules, encode}
-use Rattle.automaton.specs.Decoded.{sizeOf, sized, automatonIn, Decodes}
-use Rattle.automaton.specs.Answers.{judgementOf}
+use Rattle.automaton.specs.Decoded.{sizeOf, automatonIn, Decodes}
 use Rattle.automaton.specs.declared.table.Size.{Size}
 use Rattle.automaton.specs.declared.table.Judged.the-variants as judged
 use Rattle.automaton.specs.declared.decoding.Decoded.{Decoded}
@@ -30,6 +29,7 @@ use Rattle.automaton.proofs.Meaning.{Held, rule-well-formed}
 use Rattle.automaton.proofs.Rowing.{rules-each}
 use Rattle.automaton.proofs.StateSets.{member-empty, member-meet, same-members, same-set-in, same-set-out}
 use Rattle.automaton.proofs.WrittenBytes.{length-rule}
+use Rattle.automaton.proofs.Ranges.{from-member, member-from, from-append}
 use Rattle.simulation.specs.Tree.{Tree, node, any, belongs, accepts}
 use Rattle.simulation.specs.Words.{entryAt}
 use Rattle.simulation.specs.Index.{Indexes}
@@ -44,9 +44,9 @@ use Rattle.simulation.specs.declared.evaluation.Height.{Height}
 use Rattle.simulation.specs.declared.evaluation.Height.the-variants.{At, Refused}
 use Rattle.simulation.proofs.Search.{and-false-left, and-false-right, any-out, any-none, any-none-out}
 use Rattle.simulation.proofs.Search.{any-append, any-keep, any-same}
-use Rattle.simulation.proofs.Ranges.{from-member, member-from, from-append}
 use Rattle.simulation.proofs.Rows.{Bounded, bounded-setOf}
 use Rattle.simulation.proofs.Evaluating.{length-refused, length-found}
+use Rattle.simulation.proofs.Queries.{refused-judged}
 
 -- One tree, or another number of trees.
 module _ (rules : List Rule) (finals : List ℕ) where
@@ -202,16 +202,11 @@ module _ (size : Size) (finals ranks rows : List ℕ) (wf : WellFormed (automato
     }
 
 -- The table and the tree.
-sized-refused : (x : Read Automaton) {cause : ℕ} → refused cause ≡ sized x → x ≡ refused cause
-unfolding sized mapRead
-sized-refused (found A) e = absurd (refused≢found e)
-sized-refused (refused c) e = cc
-
 pub table-refused : (table tree : List ℕ) {r : Decoded} {ranks rows : List ℕ} (cause : Refusal)
     → Decodes (judge table) r ranks rows → r .judged ≡ judged.Refused cause → refused (numberOf cause) ≡ acceptance table tree
-unfolding judgementOf acceptance _>>=_
+unfolding acceptance _>>=_
 table-refused table tree cause d e =
-    sym (rw (sized-refused (judge table) (ap judgementOf (sym e) ∙ d .answer)))
+    sym (rw (refused-judged table _ _ _ cause d e))
 
 -- A rule takes ten bytes at least.
 rules-least : (us : List Rule) → 10 * length us ≤ length (encodeRules us)

@@ -15,13 +15,13 @@ use Rattle.automaton.proofs.Ranges.{member-from}
 use Rattle.automaton.proofs.StateSets.{same-set-out}
 use Rattle.simulation.specs.Simulation.{Relation, related, paired, matchedBy, matched, every, survives, refine, allPairs}
 use Rattle.simulation.specs.Words.{statesIn, entryAt, relationIn}
-use Rattle.simulation.specs.Inner.{Has, Simulable, loses, leads, touches, Quiet, Below, EmptyFrom, Copied}
+use Rattle.simulation.specs.Inner.{Has, Simulable, leads, touches, Quiet, Below, EmptyFrom, Copied}
 use Rattle.simulation.proofs.Search.{and-true-in, and-true-out, and-false-left, and-false-right, any-agree, every-agree}
 use Rattle.simulation.proofs.Refinement.{member-related, pair-member, refine-related}
 use Rattle.simulation.proofs.Rows.{related-in, relation-is, relation-start, relation-next, Bounded}
 use Rattle.simulation.proofs.Entering.{entry-length}
 use Rattle.simulation.proofs.Touching.{rows-related, quiet-refined, changed-loses, Going}
-use Rattle.simulation.proofs.Settling.{refined-none}
+use Rattle.simulation.proofs.Settling.{loses, refined-none}
 
 module _ (rules : List Rule) (states : List ℕ) (s : Simulable rules states) where
   paired-all : (qs rs : List ℕ) → length qs ≡ length rs → ((q : ℕ) → List·Memᴰ q qs → List·Memᴰ q states)

@@ -15,11 +15,11 @@ use Rattle.automaton.specs.Read.{Read, found, refused, mapRead}
 use Rattle.automaton.specs.Table.{judge}
 use Rattle.automaton.proofs.Inversion.{refused≢found}
 use Rattle.automaton.proofs.Keeping.{keep-in, keep-out}
+use Rattle.automaton.proofs.Ranges.{from-member}
 use Rattle.simulation.specs.Simulation.{matched}
 use Rattle.simulation.specs.Query.{simulationOf, pairQuery, Unmatched, Comparison, yes, rule, comparisonOf, isYes, Compares}
 use Rattle.simulation.specs.declared.query.Compared.{Compared}
 use Rattle.simulation.proofs.Search.{and-true-out}
-use Rattle.simulation.proofs.Ranges.{from-member}
 
 -- The first of some rules is a rule of q that no rule of r matches; and the numbers of all such rules.
 unfoldable pub unmatchedFirst : Automaton → ℕ → ℕ → List Rule → Bool

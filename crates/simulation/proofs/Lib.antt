@@ -1,6 +1,4 @@
 pub mod Search
-pub mod Parts
-pub mod Ranges
 pub mod Runs
 pub mod Language
 pub mod Refinement

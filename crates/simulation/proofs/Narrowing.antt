@@ -5,7 +5,7 @@ use native.Mathlib.Nat.{pow-suc, zero-div}
 use native.Mathlib.Omega.{arith}
 use mathlib.Core.Path.{_≡_, refl, sym, ap, _∙_}
 use mathlib.Core.List.{List, List·Memᴰ}
-use mathlib.Core.Bool.{Bool, true, false, not, _&&_, and-false, true≢false, false≢true}
+use mathlib.Core.Bool.{Bool, true, false, _&&_, and-false, true≢false, false≢true}
 use lib.ListN.{length, getD}
 use lib.Seq.{take-length}
 use lib.Pow.{shr-lt, shr-shr}

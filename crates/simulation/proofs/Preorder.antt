@@ -7,11 +7,10 @@ use mathlib.Core.List.{List, List·Memᴰ, List·Memᴰ·head, List·Memᴰ·tai
 use lib.ListN.{getD}
 use Rattle.automaton.specs.Lists.{All, also, from}
 use Rattle.automaton.specs.Automaton.{Automaton, WellFormed}
-use Rattle.automaton.proofs.Ranges.{length-from}
+use Rattle.automaton.proofs.Ranges.{length-from, from-member, member-from}
 use Rattle.simulation.specs.Simulation.{Simulates}
 use Rattle.simulation.specs.Query.{simulationOf, roundsOf}
 use Rattle.simulation.specs.Inner.{Simulable}
-use Rattle.simulation.proofs.Ranges.{from-member, member-from}
 use Rattle.simulation.proofs.Refinement.{Within}
 use Rattle.simulation.proofs.Maximality as maximality
 use Rattle.simulation.proofs.Maximality.{Closed}

@@ -28,7 +28,7 @@ use Rattle.automaton.specs.declared.decoding.Decoded.{Decoded}
 use Rattle.automaton.proofs.Inversion.{refused≢found}
 use Rattle.automaton.proofs.Meaning.{Held}
 use Rattle.automaton.proofs.StateSets.{bit}
-use Rattle.automaton.proofs.Ranges.{length-from}
+use Rattle.automaton.proofs.Ranges.{length-from, from-member, member-from, from-distinct}
 use Rattle.automaton.proofs.Rowing.{rules-at, rules-length, rule-in}
 use Rattle.automaton.proofs.WrittenBytes.{room-enough, room-short}
 use Rattle.simulation.specs.Tree.{any}
@@ -43,7 +43,6 @@ use Rattle.simulation.specs.Index.{keyed}
 use Rattle.simulation.specs.Inner.{Simulable, bytesOf, onesOf, firstFailing, firstUnmatched, comparedBy}
 use Rattle.simulation.proofs.RelationWords.{bytes-rows, length-rows, rows-bit, ones-pairs}
 use Rattle.simulation.proofs.Pairs.{pairsIn, survives-related, relation-length, relation-distinct}
-use Rattle.simulation.proofs.Ranges.{from-member, member-from, from-distinct}
 use Rattle.simulation.proofs.Indexing.{any-keyed}
 use Rattle.simulation.proofs.Preorder.{preorder-states, simulable-all}
 use Rattle.simulation.proofs.Search.{and-true-in, and-false-left, and-false-right, or-false-out}

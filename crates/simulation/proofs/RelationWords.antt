@@ -16,14 +16,13 @@ use Rattle.automaton.specs.Lists.{from, keep}
 use Rattle.automaton.specs.StateSet.{member, emptySet, withState, withAll, setOf}
 use Rattle.automaton.specs.Inner.{over}
 use Rattle.automaton.proofs.StateSets.{bit, bit-suc, states-of-set}
-use Rattle.automaton.proofs.Ranges.{from-low, from-rising, from-step, length-from}
+use Rattle.automaton.proofs.Ranges.{from-low, from-rising, from-step, length-from, from-append, keep-none}
 use Rattle.automaton.proofs.WrittenBytes.{over-then, kept-few}
 use Rattle.automaton.proofs.Keeping.{keep-append}
 use Rattle.simulation.specs.Simulation.{Relation, related}
 use Rattle.simulation.specs.Query.{bitsFrom, rowBytes, relationRows}
 use Rattle.simulation.specs.Words.{statesIn, relationIn}
 use Rattle.simulation.specs.Inner.{byteOf, bytesOf, onesIn, onesOf}
-use Rattle.simulation.proofs.Ranges.{from-append, keep-none}
 use Rattle.simulation.proofs.Rows.{related-in}
 use Rattle.simulation.proofs.Entering.{entry-at}
 use Rattle.simulation.proofs.Pairs.{pairsIn}

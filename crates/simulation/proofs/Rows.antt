@@ -18,10 +18,10 @@ use Rattle.automaton.specs.StateSet.{member, emptySet, replaced, withState, wit
 use Rattle.automaton.specs.StateSet as sets
 use Rattle.automaton.proofs.Keeping.{keep-append}
 use Rattle.automaton.proofs.StateSets.{member-with, same-members, same-set-in}
+use Rattle.automaton.proofs.Ranges.{from-member, member-from, keep-none}
 use Rattle.simulation.specs.Simulation.{Relation, related, survives, refine, allPairs}
 use Rattle.simulation.specs.Words.{statesIn, entryAt, relationIn}
 use Rattle.simulation.specs.Inner.{Has}
-use Rattle.simulation.proofs.Ranges.{from-member, member-from, keep-none}
 use Rattle.simulation.proofs.Refinement.{member-related, pair-member, member-pair, keep-related, refine-related}
 
 -- The elements of a range that pass a test.

@@ -17,11 +17,12 @@ use Rattle.automaton.proofs.Keeping.{keep-shorter}
 use Rattle.automaton.proofs.Ranges.{length-from}
 use Rattle.simulation.specs.Simulation.{Relation, refine, allPairs, relationAt, rounds, relation}
 use Rattle.simulation.specs.Words.{statesIn}
-use Rattle.simulation.specs.Inner.{loses}
 use Rattle.simulation.proofs.Refinement.{refine-shorter, refine-all, rounds-fixed, rounds-least}
 use Rattle.simulation.proofs.Maximality.{length-pairs}
 
 -- Whether a round loses a pair.
+unfoldable pub loses : List Rule → Relation → Bool
+loses rules R = not (eqb (length (refine rules R)) (length R))
 
 pub loses-none : (rules : List Rule) (R : Relation) → refine rules R ≡ R → loses rules R ≡ false
 unfolding loses

@@ -15,11 +15,11 @@ use Rattle.automaton.specs.Row.{ruleAt, Row}
 use Rattle.automaton.proofs.Fields.{Bytes}
 use Rattle.automaton.proofs.Rowing.{rule-low}
 use Rattle.automaton.proofs.StateSets.{member-empty, member-with, same-test, same-set-out}
+use Rattle.automaton.proofs.Ranges.{member-from}
 use Rattle.simulation.specs.Tree.{any}
 use Rattle.simulation.specs.Words.{entryAt}
 use Rattle.simulation.specs.Inner.{Has, inOrder, leadsTo}
 use Rattle.simulation.proofs.Search.{any-out, any-none, any-append, and-false-right}
-use Rattle.simulation.proofs.Ranges.{member-from}
 use Rattle.simulation.proofs.Entering.{entry-length, entry-at}
 
 -- Tests as numbers.

@@ -18,14 +18,14 @@ use Rattle.simulation.specs.Tree.{any}
 use Rattle.simulation.specs.Simulation.{Relation, related, paired, matchedBy, matched, every, survives, refine, allPairs}
 use Rattle.simulation.specs.Simulation.{rounds, relation}
 use Rattle.simulation.specs.Words.{entryAt, relationIn}
-use Rattle.simulation.specs.Inner.{Has, loses, answers, touches, Quiet, Below, EmptyFrom, Copied, Rounded}
+use Rattle.simulation.specs.Inner.{Has, answers, touches, Quiet, Below, EmptyFrom, Copied, Rounded}
 use Rattle.simulation.proofs.Search.{and-true-out, and-false-left, and-false-right, any-none-out, every-in, every-out}
 use Rattle.simulation.proofs.Search.{every-agree, every-append}
 use Rattle.simulation.proofs.Refinement.{related-member, member-pair, keep-related, refine-related, refine-out}
 use Rattle.simulation.proofs.Rows.{related-in, relation-next, relation-same, Bounded, bounded-setOf, sets-differ}
 use Rattle.simulation.proofs.Entering.{entry-length}
 use Rattle.simulation.proofs.Narrowing.{and-same}
-use Rattle.simulation.proofs.Settling.{Refined, loses-none, loses-some, loses-out, refined-next, refined-all}
+use Rattle.simulation.proofs.Settling.{loses, Refined, loses-none, loses-some, loses-out, refined-next, refined-all}
 
 -- Two relations that agree on the children of a rule.
 module _ (R S : Relation) where

@@ -14,7 +14,7 @@ use Rattle.automaton.specs.StateSet.{member, words}
 use Rattle.automaton.specs.Row.{ruleAt, Rows}
 use Rattle.simulation.specs.Tree.{Tree, any, belongs, accepts}
 use Rattle.simulation.specs.Postfix.{pushAll, single, judgeTree}
-use Rattle.simulation.specs.Simulation.{Relation, related, every, matched, refine}
+use Rattle.simulation.specs.Simulation.{Relation, related, every, matched}
 use Rattle.simulation.specs.Query.{Comparison, yes, rule}
 use Rattle.simulation.specs.Words.{entryAt, relationIn}
 use Rattle.simulation.specs.Index.{Indexes}
@@ -37,8 +37,7 @@ pub record Evaluable (k : ℕ) (ranks rows index : List ℕ) : Type 0 where
   pub arity : (i : ℕ) → i < k → length (ruleAt rows i .children) ≡ getD ranks (ruleAt rows i .symbol) 0
   pub index-is : Indexes (λ (u : Rule). u .symbol) rows k (length ranks) index
 
--- A stack of state sets in words.
--- Room for n entries, or for 1,024 where n is greater.
+-- Room in a stack of state sets for n entries, or for 1,024 where n is greater.
 abbrev pub StackRoom : ℕ → List ℕ → Type 0
 StackRoom n words = (h : ℕ) → h ≤ n → h ≤ 1024 → 4 * h ≤ length words
 
@@ -92,15 +91,11 @@ pub record Answering (k n : ℕ) (rows index : List ℕ) : Type 0 where
   pub rules : Rows rows k
   pub index-is : Indexes (λ (u : Rule). u .target) rows k n index
 
--- Rules that a relation on some states is computed of: they name these states alone, and rules of one symbol have as many children.
+-- What a relation on some states is computed of: rules that name these states alone, where rules of one symbol have equally many children.
 pub record Simulable (rules : List Rule) (states : List ℕ) : Type 0 where
   pub targets : (u : Rule) → List·Memᴰ u rules → List·Memᴰ (u .target) states
   pub children : (u : Rule) → List·Memᴰ u rules → (q : ℕ) → List·Memᴰ q (u .children) → List·Memᴰ q states
   pub arity : (u v : Rule) → List·Memᴰ u rules → List·Memᴰ v rules → u .symbol ≡ v .symbol → length (u .children) ≡ length (v .children)
-
--- Whether a round loses a pair.
-unfoldable pub loses : List Rule → Relation → Bool
-loses rules R = not (eqb (length (refine rules R)) (length R))
 
 -- Some rule of symbol f has target r.
 unfoldable pub leads : List Rule → ℕ → ℕ → Bool

@@ -6,7 +6,11 @@ ghost use Rattle.automaton.specs.Inner.{RowsRoom};
 ghost use Rattle.simulation.specs.Check as spec;
 ghost use Rattle.simulation.specs.Inner.{IndexRoom};
 use crate::evaluation::accept;
+use crate::index::FEW_INDEX;
+use crate::index::INDEX;
+use automaton::FEW_ROWS;
 use automaton::Judged;
+use automaton::ROWS;
 use automaton::Refusal;
 use automaton::decode;
 
@@ -89,12 +93,12 @@ fn answer_for(table: &[u8], tree: &[u8]) -> Answer
 {
     let mut ranks: [u8; 256] = [0; 256];
     if table.len() <= 1280 {
-        let mut rows: [u8; 1408] = [0; 1408];
-        let mut index: [u16; 385] = [0; 385];
+        let mut rows: [u8; FEW_ROWS] = [0; FEW_ROWS];
+        let mut index: [u16; FEW_INDEX] = [0; FEW_INDEX];
         return answer_in(table, tree, &mut ranks, &mut rows, &mut index);
     }
-    let mut rows: [u8; 11264] = [0; 11264];
-    let mut index: [u16; 1281] = [0; 1281];
+    let mut rows: [u8; ROWS] = [0; ROWS];
+    let mut index: [u16; INDEX] = [0; INDEX];
     answer_in(table, tree, &mut ranks, &mut rows, &mut index)
 }
 

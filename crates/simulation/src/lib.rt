@@ -19,6 +19,7 @@ pub use query::compare;
 pub use query::relate;
 
 // Exported for the crates above: parts of the work, on decoded arrays and numbers in range.
+pub use index::INDEX;
 pub use index::Key;
 pub use index::index_rules;
 pub use index::rules_of;

@@ -15,6 +15,7 @@ ghost use Rattle.simulation.specs.Query.{relatedOf, relationQuery, relat
 ghost use Rattle.simulation.specs.Words.{relationIn};
 ghost use Rattle.simulation.specs.Index.{keyed};
 ghost use Rattle.simulation.specs.Inner.{Answering, Simulable, bytesOf, onesIn, onesOf, firstUnmatched, comparedBy};
+use crate::index::INDEX;
 use crate::index::Key;
 use crate::index::index_rules;
 use crate::index::rules_of;
@@ -23,6 +24,7 @@ use crate::matching::has_match;
 use crate::matching::has_pair;
 use crate::rounds::simulate;
 use automaton::Judged;
+use automaton::ROWS;
 use automaton::Refusal;
 use automaton::Size;
 use automaton::StateSet;
@@ -125,7 +127,7 @@ pub fn relate(table: &[u8], out: &mut [u8]) -> Related
     ensures { λ r. ⌜ now (out .exit) ≡ relationAfter (judge (now (table .entry))) (now (out .entry)) ⌝ }
 {
     let mut ranks: [u8; 256] = [0; 256];
-    let mut rows: [u8; 11264] = [0; 11264];
+    let mut rows: [u8; ROWS] = [0; ROWS];
     let decoded = decode(table, &mut ranks, &mut rows);
     let judged = decoded.judged;
     match judged {
@@ -135,7 +137,7 @@ pub fn relate(table: &[u8], out: &mut [u8]) -> Related
             if out.len() < 32 * n {
                 return Related::Refused(Refusal::ShortOutput);
             }
-            let mut index: [u16; 1281] = [0; 1281];
+            let mut index: [u16; INDEX] = [0; INDEX];
             let mut relation = Relation {
                 words: [0; 1024],
                 rounds: 0,
@@ -175,7 +177,7 @@ fn compare_states(size: Size, rows: &[u8], q: u8, r: u8) -> Compared
     ensures { λ a. ⌜ comparisonOf a ≡ found (comparedBy (rulesIn (now (rows .entry)) (size .rules))
         (simulation.relation (rulesIn (now (rows .entry)) (size .rules)) (from 0 (size .states))) q r) ⌝ }
 {
-    let mut index: [u16; 1281] = [0; 1281];
+    let mut index: [u16; INDEX] = [0; INDEX];
     let mut relation = Relation {
         words: [0; 1024],
         rounds: 0,
@@ -195,7 +197,7 @@ pub fn compare(table: &[u8], q: usize, r: usize) -> Compared
     ensures { λ a. ⌜ Compares (now (table .entry)) q r a ⌝ }
 {
     let mut ranks: [u8; 256] = [0; 256];
-    let mut rows: [u8; 11264] = [0; 11264];
+    let mut rows: [u8; ROWS] = [0; ROWS];
     let decoded = decode(table, &mut ranks, &mut rows);
     let judged = decoded.judged;
     match judged {

@@ -7,6 +7,7 @@ ghost use Rattle.automaton.specs.Row.{Row, Rows};
 ghost use Rattle.automaton.specs.Decoded.{automatonIn};
 use automaton::Judged;
 use automaton::Opened;
+use automaton::ROWS;
 use automaton::Refusal;
 use automaton::Size;
 use automaton::StateSet;
@@ -84,7 +85,7 @@ fn refused(cause: Refusal) {
 // Decodes a table and writes it back.
 fn decode(t: &[u8]) {
     let mut ranks = [7u8; 256];
-    let mut rows = [7u8; 11264];
+    let mut rows = [7u8; ROWS];
     let d = automaton::decode(t, &mut ranks, &mut rows);
     let judged = d.judged;
     let finals = d.finals;

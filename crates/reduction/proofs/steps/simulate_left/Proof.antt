@@ -3,7 +3,7 @@ use borrow.Author.Needs.{needs}
 use native.Mathlib.Omega.{arith}
 use Rattle.automaton.proofs.Rowing.{rule-in}
 use Rattle.simulation.specs.Index.{keyOf}
-use Rattle.reduction.proofs.Staged.{states-low}
+use Rattle.simulation.proofs.Beginning.{states-low}
 use Rattle.reduction.proofs.steps.simulate_left.Statement.{statement}
 use Rattle.reduction.proofs.steps.simulate_left.Tie as tie
 

@@ -9,11 +9,10 @@ use mathlib.Core.List.{List}
 use denote.Ref.{now}
 use Rattle.automaton.specs.Lists.{from}
 use Rattle.automaton.specs.StateSet.{emptySet, sameSet}
-use Rattle.automaton.proofs.Ranges.{from-step}
+use Rattle.automaton.proofs.Ranges.{from-step, from-member}
 use Rattle.simulation.specs.Tree.{any}
 use Rattle.simulation.specs.Words.{entryAt}
 use Rattle.simulation.proofs.Search.{any-in, any-append, or-false-in}
-use Rattle.simulation.proofs.Ranges.{from-member}
 use Rattle.simulation.proofs.evaluation.has_empty.Statement.{statement}
 use Rattle.simulation.proofs.evaluation.has_empty.Tie as tie
 
