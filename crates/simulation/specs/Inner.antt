@@ -125,6 +125,16 @@ EmptyFrom n words = (q : ℕ) → q < 256 → Below n (entryAt words q)
 unfoldable pub Copied : ℕ → List ℕ → List (List ℕ) → Type 0
 Copied n words next = (q : ℕ) → q < n → getD next q [] ≡ entryAt words q
 
+-- What a round works on: k rules in rows that ask for matches, with targets below n; j rules that answer, with an index by target, of which
+-- there are m; and a relation to states below m alone, with a copy of the rows of the states below n.
+pub record Roundable (k n m j : ℕ) (words : List ℕ) (next : List (List ℕ)) (rows others index : List ℕ) : Type 0 where
+  pub states : n ≤ 256
+  pub rules : Rows rows k
+  pub targets : (i : ℕ) → i < k → ruleAt rows i .target < n
+  pub answering : Answering j m others index
+  pub copied : Copied n words next
+  pub low : EmptyFrom m words
+
 -- What a round leaves: the next relation's rows of the states below n, and the set of those that lost a state; the others are the last ones.
 pub record Rounded (n : ℕ) (rules others : List Rule) (words : List ℕ) (next : List (List ℕ)) (lost : List ℕ) : Type 0 where
   pub rows : (q : ℕ) → q < n

@@ -11,7 +11,7 @@ ghost use Rattle.automaton.specs.StateSet.{member, emptySet, sameSet};
 ghost use Rattle.automaton.specs.Row.{ruleAt, rulesIn, Row, Rows};
 ghost use Rattle.simulation.specs.Simulation as simulation;
 ghost use Rattle.simulation.specs.Words.{statesIn, entryAt, relationIn};
-ghost use Rattle.simulation.specs.Inner.{Has, Answering, Simulable, Below, EmptyFrom, Copied, leads, touches, Quiet, Rounded};
+ghost use Rattle.simulation.specs.Inner.{Has, Answering, Simulable, Below, Copied, leads, touches, Quiet, Roundable, Rounded};
 use crate::entries::entry;
 use crate::entries::put_entry;
 use crate::index::rules_of;
@@ -39,20 +39,13 @@ fn below(states: StateSet, n: usize) -> StateSet
     set
 }
 
-// Row q of some, as a set.
+// Row q of a relation in work, as a set.
 fn row_of(rows: &[[u64; 4]], q: usize) -> StateSet
     requires { ⌜ q < length (now rows) ⌝ }
     ensures { λ s. ⌜ s .words ≡ getD (now (rows .entry)) q [] ⌝ }
 {
     let words = rows[q];
     StateSet { words }
-}
-
-// How many rules ask for matches, how many states they may have as targets, and how many states answer.
-pub struct Extent {
-    pub rules: usize,
-    pub asking: usize,
-    pub answering: usize,
 }
 
 // For each symbol the set of the targets of its rules, over sets that are empty.
@@ -103,7 +96,7 @@ fn first_round(rows: &[u8], k: usize, holders: &[[u64; 4]], words: &mut [u64])
     }
 }
 
-// Copies the rows of the states below n; returns those of some states whose rows are not all these states.
+// Copies the rows of the states below n; returns those states of the set whose row is not the whole set.
 fn copy_rows(states: StateSet, n: usize, words: &[u64; 1024], next: &mut [[u64; 4]]) -> StateSet
     requires { ⌜ (n ≤ 256) × (length (now next) ≡ 256) ⌝ }
     ensures { λ _. ⌜ Copied n (now (words .entry)) (now (next .exit)) ⌝ }
@@ -163,31 +156,29 @@ fn narrow(
     lost
 }
 
-// A round: narrows the next relation's rows, which are the last one's, by the rules that have a child whose row changed in the round
+// A round: narrows the next relation's rows, which are the last one's, by those of k rules that have a child whose row changed in the round
 // before; returns the states whose rows change.
 fn round(
     changed: StateSet,
-    extent: Extent,
+    k: usize,
     words: &[u64; 1024],
     next: &mut [[u64; 4]],
     rows: &[u8],
     others: &[u8],
     index: &[u16],
 ) -> StateSet
-    requires { ⌜ (extent .asking ≤ 256) × ((length (now words) ≡ 1024) × (length (now next) ≡ 256)) ⌝ }
-    requires { ⌜ Rows (now rows) (extent .rules)
-        × ((i : ℕ) → i < extent .rules → ruleAt (now rows) i .target < extent .asking) ⌝ }
-    requires { ⌜ ((k : ℕ) × Answering k (extent .answering) (now others) (now index)) ⌝ }
-    requires { ⌜ Copied (extent .asking) (now words) (now next) × EmptyFrom (extent .answering) (now words) ⌝ }
-    ensures { λ s. ⌜ ((k : ℕ) → Answering k (extent .answering) (now (others .entry)) (now (index .entry))
-        → Quiet (rulesIn (now (rows .entry)) (extent .rules)) (rulesIn (now (others .entry)) k)
+    requires { ⌜ (length (now words) ≡ 1024) × (length (now next) ≡ 256) ⌝ }
+    requires { ⌜ ((n : ℕ) × ((m : ℕ) × ((j : ℕ) × Roundable k n m j (now words) (now next) (now rows) (now others) (now index)))) ⌝ }
+    ensures { λ s. ⌜ ((n m j : ℕ) → Roundable k n m j (now (words .entry)) (now (next .entry)) (now (rows .entry))
+        (now (others .entry)) (now (index .entry))
+        → Quiet (rulesIn (now (rows .entry)) k) (rulesIn (now (others .entry)) j)
         (relationIn (now (words .entry))) (touches (changed .words))
-        → Rounded (extent .asking) (rulesIn (now (rows .entry)) (extent .rules)) (rulesIn (now (others .entry)) k)
+        → Rounded n (rulesIn (now (rows .entry)) k) (rulesIn (now (others .entry)) j)
         (now (words .entry)) (now (next .exit)) (s .words)) ⌝ }
 {
     let mut lost = StateSet::empty();
     let mut i: usize = 0;
-    while i < extent.rules {
+    while i < k {
         if some_in(changed, children_of(rows, i)) {
             let q = target_of(rows, i);
             let mut row = next[q as usize];
@@ -242,14 +233,9 @@ pub fn simulate(
     start(all, size.states, words);
     first_round(rows, size.rules, &next, words);
     let mut changed = copy_rows(all, size.states, words, &mut next);
-    let extent = Extent {
-        rules: size.rules,
-        asking: size.states,
-        answering: size.states,
-    };
     let mut rounds: usize = 0;
     while !changed.same(StateSet::empty()) {
-        changed = round(changed, extent, words, &mut next, rows, rows, index);
+        changed = round(changed, size.rules, words, &mut next, rows, rows, index);
         put_back(changed, size.states, &next, words);
         rounds += 1;
     }

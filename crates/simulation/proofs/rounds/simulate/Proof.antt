@@ -15,7 +15,7 @@ use Rattle.automaton.specs.StateSet.{emptySet, sameSet, words}
 use Rattle.automaton.proofs.Rowing.{rule-in, rules-each, rule-low}
 use Rattle.simulation.specs.Simulation.{Relation, allPairs}
 use Rattle.simulation.specs.Words.{statesIn}
-use Rattle.simulation.specs.Inner.{Simulable, Below}
+use Rattle.simulation.specs.Inner.{Simulable, Below, Roundable}
 use Rattle.simulation.proofs.Rows.{states-below, Bounded}
 use Rattle.simulation.proofs.Settling.{loses-less, pairs-few}
 use Rattle.simulation.proofs.Touching.{Going, going-next, going-done}
@@ -24,13 +24,13 @@ use Rattle.simulation.proofs.rounds.simulate.Statement.{statement}
 use Rattle.simulation.proofs.rounds.simulate.Tie as tie
 
 abbrev Inv-loop : tie.InvT-loop
-Inv-loop size rows index words₀ next₀ changed₀ extent rounds₀ words next changed rounds =
+Inv-loop size rows index words₀ next₀ changed₀ rounds₀ words next changed rounds =
     (length words ≡ 1024) × (length next ≡ 256)
     × ((R : Relation) → Going (size .states) (rulesIn rows (size .rules)) R words₀ next₀ (changed₀ .words) 0
     → Going (size .states) (rulesIn rows (size .rules)) R words next (changed .words) rounds)
 
 abbrev μ-loop : tie.MeasureT-loop
-μ-loop size rows index words₀ next₀ changed₀ extent rounds₀ words next changed rounds = 65536 - rounds
+μ-loop size rows index words₀ next₀ changed₀ rounds₀ words next changed rounds = 65536 - rounds
 
 abbrev begin : tie.After-below Inv-loop μ-loop → tie.Start Inv-loop μ-loop
 begin c = c .before .before .before
@@ -135,15 +135,27 @@ going : (c : tie.At-loop Inv-loop μ-loop)
     (c .loop .rounds)
 going c = c .loop .inv .2 _ (first (c .before))
 
+-- What a round works on.
+roundable : (c : tie.At-loop Inv-loop μ-loop)
+    → let b = begin (low (c .before)) .args in
+    Roundable (b .size .rules) (b .size .states) (b .size .states) (b .size .rules) (c .loop .words) (c .loop .next) (b .rows .now)
+    (b .rows .now) (b .index .now)
+roundable c =
+    let l = low (c .before) in
+    let p = begin l .pre .0 in
+    record {
+      states = few l;
+      rules = p .rules;
+      targets = λ i h. targets l _ (rule-in _ _ i h);
+      answering = p;
+      copied = going c .copied;
+      low = going c .low;
+    }
+
 round-requires : tie.Need-round-requires Inv-loop μ-loop
 round-requires c κs =
     let t = c .before .before .before .before .before in
-    let l = low (t .before) in
-    let g = going t in
-    let p = begin l .pre .0 in (
-      (few l, (t .loop .inv .0, t .loop .inv .1)),
-      ((p .rules, λ i h. targets l _ (rule-in _ _ i h)), ((_, p), (g .copied, g .low))),
-    )
+    ((t .loop .inv .0, t .loop .inv .1), (_, (_, (_, roundable t))))
 
 put-back-requires : tie.Need-put-back-requires Inv-loop μ-loop
 put-back-requires c κs =
@@ -188,7 +200,7 @@ loop-again c =
       λ R first.
           let g = t .loop .inv .2 R first in
           going-next (n l) (rules l) (t .loop .words) (c .put-back .last .1 .1 .1 .0) (r .round .last .1 .1 .1 .0) (r .round .result .words)
-          (few l) (targets l) (r .round .ensures _ (begin l .pre .0) (g .quiet)) (c .put-back .ensures .0) (c .put-back .ensures .1)
+          (few l) (targets l) (r .round .ensures _ _ _ (roundable t) (g .quiet)) (c .put-back .ensures .0) (c .put-back .ensures .1)
           R (t .loop .next) (t .loop .changed .words) (t .loop .rounds) (children l) (lost-four r) (lost-bounded r) g
           (ap not (sym (some (test .before))) ∙ test .if1 .taken),
     )
