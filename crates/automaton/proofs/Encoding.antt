@@ -1,25 +1,27 @@
 -- Judging and encoding are inverse: a judged table is well-formed and encodes to its bytes, an encoded one is judged.
 use Prim.Native.Nat.{ℕ, zero, suc, _+_, _*_, _%_, _≤_, _<_}
-use native.Mathlib.Omega.{arith}
 use mathlib.Core.Path.{_≡_, refl, sym, ap, _∙_}
 use mathlib.Core.List.{List, [], _∷_, _++_}
-use lib.ListN.{length, drop, length-drop}
-use Rattle.automaton.specs.Lists.{All, none, also, Rising, empty, single, step}
-use Rattle.automaton.specs.Bytes.{number2, numbers, fields}
-use Rattle.automaton.specs.Record.{whole, opened, bodyOf, encodeRecord}
-use Rattle.automaton.specs.Automaton.{Rule, Automaton, WellFormedRule, WellFormed}
-use Rattle.automaton.specs.Read.{found}
-use Rattle.automaton.specs.Table.{ruleIn, judgeRule, judgeRules, judgeFinals, judgeRanks, judge}
-use Rattle.automaton.specs.Table.{encodeRule, encodeRules, encode}
-use Rattle.automaton.proofs.Elements.{all-map, all-at, all-first, all-rest}
-use Rattle.automaton.proofs.Fields.{Bytes, bytes-none, bytes-also, bytes-drop, bytes-fields}
-use Rattle.automaton.proofs.Fields.{numbers-step, two-numbers, numbers-end, length-numbers, fields-numbers, numbers-fields}
-use Rattle.automaton.proofs.Fields.{first-field, drop-field, drop-two-fields, length-fields}
-use Rattle.automaton.proofs.Records.{length-record-more, bytes-record, bytes-body}
-use Rattle.automaton.proofs.Records.{record-opens, record-body, record-behind, record-encoded}
-use Rattle.automaton.proofs.Inversion.{RuleFound, rule-found, no-rules-found, rules-found, finals-found}
-use Rattle.automaton.proofs.Inversion.{ranks-found, table-found, judge-sized}
-use Rattle.automaton.proofs.Inversion.{rule-finds, rules-finds, finals-finds, ranks-finds, table-finds}
+use native.Mathlib.Omega.{arith}
+use lib.ListN.{length, drop, length-append, length-drop}
+use Rattle.lists.specs.Lists.{All, none, also}
+use Rattle.lists.proofs.Elements.{all-map, all-at, all-first, all-rest}
+use Rattle.lists.proofs.Rising.{rising-short}
+use Rattle.records.specs.Bytes.{fields, number2, numbers}
+use Rattle.records.specs.Record.{encodeRecord, whole, opened, bodyOf}
+use Rattle.records.specs.Read.{found}
+use Rattle.records.proofs.Fields.{length-fields, Bytes, bytes-none, bytes-also, bytes-drop, bytes-fields, numbers-step, two-numbers}
+use Rattle.records.proofs.Fields.{numbers-end, length-numbers, fields-numbers, numbers-fields, first-field, drop-field, drop-two-fields}
+use Rattle.records.proofs.Records.{length-record, length-record-more, bytes-record, bytes-body, record-opens, record-body, record-behind}
+use Rattle.records.proofs.Records.{record-encoded}
+use Rattle.automaton.specs.Automaton.{Rule, WellFormed, Automaton, WellFormedRule}
+use Rattle.automaton.specs.Table.{encodeRule, encodeRules, encode, ruleIn, judgeRule, judgeRules, judgeFinals, judgeRanks, judge}
+use Rattle.automaton.proofs.Inversion.{RuleFound, rule-found, no-rules-found, rules-found, finals-found, ranks-found, table-found}
+use Rattle.automaton.proofs.Inversion.{judge-sized, rule-finds, rules-finds, finals-finds, ranks-finds, table-finds}
+
+pub length-rule : (u : Rule) → length (encodeRule u) ≡ 10 + 2 * length (u .children)
+unfolding encodeRule
+length-rule u = rw (length-record, length-fields) (omega arith)
 
 -- What is judged is well-formed.
 
@@ -111,15 +113,6 @@ encode-judge b A h e =
     fields-encoded b _ _ (t .first .opens) h (omega arith) (cc (three-numbers (bodyOf b) (t .first .size))) in-ranks
 
 -- How long the lists of a well-formed automaton are.
-
-rising-count : {n a : ℕ} {xs : List ℕ} → Rising (a ∷ xs) → All (λ (q : ℕ). q < n) (a ∷ xs) → a + length (a ∷ xs) ≤ n
-rising-count single (also h hs) = omega arith
-rising-count (step l r) (also h hs) = omega (arith, rising-count r hs)
-
-pub rising-short : {n : ℕ} {xs : List ℕ} → Rising xs → All (λ (q : ℕ). q < n) xs → length xs ≤ n
-rising-short empty hs = omega arith
-rising-short single hs = omega (arith, rising-count single hs)
-rising-short (step l r) hs = omega (arith, rising-count (step l r) hs)
 
 pub children-few : (A : Automaton) (u : Rule) → WellFormed A → WellFormedRule A u → length (u .children) ≤ 8
 children-few A u w r = omega (arith, all-at (w .ranks) (u .symbol) (r .symbol))
@@ -269,3 +262,13 @@ unfolding encode
 encode-length A w =
     simp (length-record-more, length-fields)
     (omega (arith, rules-length A w (w .rules), rising-short (w .rising) (w .finals)))
+
+-- A rule takes ten bytes at least.
+rules-least : (us : List Rule) → 10 * length us ≤ length (encodeRules us)
+unfolding encodeRules
+rules-least [] = omega arith
+rules-least (u ∷ us) = rw length-append (omega (arith, length-rule u, rules-least us))
+
+pub table-least : (A : Automaton) → 10 * length (A .rules) ≤ length (encode A)
+unfolding encode
+table-least A = simp length-append (omega (arith, rules-least (A .rules)))

@@ -5,14 +5,14 @@ use native.Mathlib.Omega.{arith}
 use mathlib.Core.Path.{_≡_, refl}
 use mathlib.Core.List.{List, [], _∷_, _++_}
 use lib.ListN.{length, take, replicate}
+use Rattle.lists.specs.Lists.{all, rising, risingFrom, from}
+use Rattle.lists.proofs.Ranges.{replicate-all, from-low, from-rising}
+use Rattle.records.specs.Read.{found, refused, _>>=_, _>>_, check}
+use Rattle.records.specs.Bytes.{number2, number4, numbers, bytes2, bytes4, fields}
+use Rattle.records.specs.Record.{endOf, isWhole, opened, bodyIn, bodyOf, encodeRecord}
 use Rattle.automaton.specs.Automaton.{Rule, Automaton, WellFormedRule, WellFormed}
-use Rattle.automaton.specs.Read.{found, refused, _>>=_, _>>_, check}
-use Rattle.automaton.specs.Lists.{all, rising, risingFrom, from}
-use Rattle.automaton.specs.Bytes.{number2, number4, numbers, bytes2, bytes4, fields}
-use Rattle.automaton.specs.Record.{endOf, isWhole, opened, bodyIn, bodyOf, encodeRecord}
-use Rattle.automaton.specs.Table.{dueIn, due, ruleIn, judgeRule, judgeRules, judgeFinals, judgeRanks, judge}
-use Rattle.automaton.specs.Table.{encodeRule, encodeRules, encode}
-use Rattle.automaton.proofs.Ranges.{replicate-all, from-low, from-rising}
+use Rattle.automaton.specs.Table.{dueIn, due, ruleIn, judgeRule, judgeRules, judgeFinals, judgeRanks, judge, encodeRule, encodeRules}
+use Rattle.automaton.specs.Table.{encode}
 use Rattle.automaton.proofs.Theorems.{judge-encoded}
 
 abbrev pub rule : ℕ → ℕ → List ℕ → Rule

@@ -1,51 +1,24 @@
 -- What a judge that finds something has checked (`-found`): every step before a `found` has passed, and each test is a fact.
 -- The other way round (`-finds`): where the facts hold, it finds. A table's parts one after the other (`-split`), its counts (`Sized`).
 use Prim.Native.Nat.{ℕ, zero, suc, _+_, _*_, _%_, _≤_, _<_}
-use native.Mathlib.Omega.{arith}
 use mathlib.Core.Path.{_≡_, refl, sym, ap, _∙_}
 use mathlib.Core.List.{List, [], _∷_}
-use mathlib.Core.Bool.{Bool, true, false, and-eq-true-iff}
 use lib.ListN.{length, drop, getD}
-use lib.Dec.{leb, ltb, eqb}
+use lib.Dec.{leb, eqb}
 use borrow.Author.Tests.{ltb-true, leb-true, eqb-true, lt-ltb, le-leb, eq-eqb}
-use Rattle.automaton.specs.Lists.{All, none, also, Rising, empty, single, step, all, rising, risingFrom}
-use Rattle.automaton.specs.Bytes.{number2, numbers}
-use Rattle.automaton.specs.Record as records
-use Rattle.automaton.specs.Record.{Opening, whole, nothing, opened, bodyOf}
+use Rattle.lists.specs.Lists.{All, Rising}
+use Rattle.lists.proofs.Elements.{All→all, all-below, all→All, below-all}
+use Rattle.lists.proofs.Rising.{Rising→rising, rising→Rising}
+use Rattle.records.specs.Record as records
+use Rattle.records.specs.Bytes.{number2, numbers}
+use Rattle.records.specs.Record.{Opening, whole, nothing, opened, bodyOf}
+use Rattle.records.specs.Read.{found, _>>=_, _>>_, check}
+use Rattle.records.proofs.Reading.{bind-bind, bind-found, checked, found-same, refused≢found, then-bind, then-found}
 use Rattle.automaton.specs.Automaton.{Rule, Automaton}
-use Rattle.automaton.specs.Read.{Read, found, refused, _>>=_, _>>_, check}
 use Rattle.automaton.specs.Table.{dueIn, due, ruleIn, judgeRule, judgeRules, judgeFinals, judgeRanks, judge}
 use Rattle.automaton.specs.Inner.{sizeEnd, ranksEnd, finalsEnd}
 
 -- Steps.
-
-pub refused≢found : {A : Type 0} {cause : ℕ} {a : A} → refused cause ≡ found a → ⊥
-refused≢found h = let z : _≡_ {A = ℕ} 0 1 = cc in omega arith
-
-pub bind-found :
-    {A B : Type 0} (x : Read A) (f : A → Read B) {y : B} → x >>= f ≡ found y → (a : A) × (x ≡ found a) × (f a ≡ found y)
-unfolding _>>=_
-bind-found (found a) f h = (a, refl, h)
-bind-found (refused cause) f h = absurd (refused≢found h)
-
-pub then-found :
-    {A B : Type 0} (x : Read A) (y : Read B) {z : B} → x >> y ≡ found z → (a : A) × (x ≡ found a) × (y ≡ found z)
-unfolding _>>_
-then-found (found a) y h = (a, refl, h)
-then-found (refused cause) y h = absurd (refused≢found h)
-
-check-found : (t : Bool) (cause : ℕ) {u : Unit {0}} → check t cause ≡ found u → t ≡ true
-unfolding check
-check-found true cause h = refl
-check-found false cause h = absurd (refused≢found h)
-
--- A check and what follows it.
-pub checked :
-    {B : Type 0} (t : Bool) (cause : ℕ) (y : Read B) {z : B} → check t cause >> y ≡ found z → (t ≡ true) × (y ≡ found z)
-checked t cause y h = let s = then-found (check t cause) y h in (check-found t cause (s .1), s .2)
-
-pub found-same : {A : Type 0} {a b : A} → found a ≡ found b → a ≡ b
-found-same h = cc
 
 -- The next record.
 
@@ -63,52 +36,7 @@ due-found kind missing b h = dueIn-found kind missing (opened b) h
 
 -- Tests of lists.
 
-module _ (t : ℕ → Bool) (P : ℕ → Type 0) where
-  all→All : ((x : ℕ) → t x ≡ true → P x) → (xs : List ℕ) → all t xs ≡ true → All P xs
-  unfolding all
-  all→All f [] h = none
-  all→All f (x ∷ xs) h = let c = and-eq-true-iff (t x) (all t xs) .0 h in also (f x (c .0)) (all→All f xs (c .1))
-
-  All→all : ((x : ℕ) → P x → t x ≡ true) → {xs : List ℕ} → All P xs → all t xs ≡ true
-  unfolding all
-  All→all f none = refl
-  All→all f (also p ps) = rw (f _ p, All→all f ps)
-
-risingFrom→Rising : (a : ℕ) (xs : List ℕ) → risingFrom a xs ≡ true → Rising (a ∷ xs)
-unfolding risingFrom
-risingFrom→Rising a [] h = single
-risingFrom→Rising a (b ∷ xs) h =
-    let c = and-eq-true-iff (ltb a b) (risingFrom b xs) .0 h in
-    step (ltb-true a b (c .0)) (risingFrom→Rising b xs (c .1))
-
-rising→Rising : (xs : List ℕ) → rising xs ≡ true → Rising xs
-unfolding rising
-rising→Rising [] h = empty
-rising→Rising (a ∷ xs) h = risingFrom→Rising a xs h
-
-Rising→rising : {xs : List ℕ} → Rising xs → rising xs ≡ true
-unfolding rising risingFrom
-Rising→rising empty = refl
-Rising→rising single = refl
-Rising→rising (step h r) = rw (lt-ltb _ _ h) (Rising→rising r)
-
-all-below : (n : ℕ) (xs : List ℕ) → all (λ (q : ℕ). ltb q n) xs ≡ true → All (λ (q : ℕ). q < n) xs
-all-below n = all→All (λ (q : ℕ). ltb q n) (λ (q : ℕ). q < n) (λ q. ltb-true q n)
-
-below-all : (n : ℕ) {xs : List ℕ} → All (λ (q : ℕ). q < n) xs → all (λ (q : ℕ). ltb q n) xs ≡ true
-below-all n = All→all (λ (q : ℕ). ltb q n) (λ (q : ℕ). q < n) (λ q. lt-ltb q n)
-
 -- A table's parts: the first record by itself, and then what is after it.
-
-bind-bind : {A B C : Type 0} (x : Read A) (f : A → Read B) (g : B → Read C) → x >>= f >>= g ≡ x >>= (λ (a : A). f a >>= g)
-unfolding _>>=_
-bind-bind (found a) f g = refl
-bind-bind (refused cause) f g = refl
-
-then-bind : {A B C : Type 0} (x : Read A) (y : Read B) (g : B → Read C) → x >> y >>= g ≡ x >> (y >>= g)
-unfolding _>>=_ _>>_
-then-bind (found a) y g = refl
-then-bind (refused cause) y g = refl
 
 pub judge-split : (b : List ℕ) → judge b ≡ sizeEnd b >>= (λ (end : ℕ).
     judgeRanks (number2 (bodyOf b)) (number2 (drop 2 (bodyOf b))) (number2 (drop 4 (bodyOf b))) (drop end b))

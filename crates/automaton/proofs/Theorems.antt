@@ -5,20 +5,22 @@ use mathlib.Core.List.{List}
 use mathlib.Core.Bool.{true, false, not, _&&_, _||_}
 use lib.ListN.{length, getD}
 use lib.Dec.{eqb}
+use Rattle.sets.specs.Set.{member, emptySet, withState, withoutState, unionOf, meetOf, sameSet}
+use Rattle.sets.proofs.StateSets as sets
+use Rattle.records.specs.Read.{found, refused}
+use Rattle.records.specs.Output.{written, writtenOver}
+use Rattle.records.proofs.Buffers as leaving
 use Rattle.automaton.specs.Automaton.{Automaton, WellFormed}
-use Rattle.automaton.specs.Read.{found, refused}
 use Rattle.automaton.specs.Table.{judge, encode}
-use Rattle.automaton.specs.StateSet.{member, emptySet, withState, withoutState, unionOf, meetOf, sameSet}
 use Rattle.automaton.specs.Row.{Rows}
-use Rattle.automaton.specs.Decoded.{automatonIn, written, writtenOver, Decodes}
+use Rattle.automaton.specs.Decoded.{automatonIn, Decodes}
 use Rattle.automaton.specs.declared.decoding.Decoded.{Decoded}
 use Rattle.automaton.specs.declared.table.Size.{Size}
 use Rattle.automaton.specs.declared.table.Judged.the-variants.{Table}
-use Rattle.automaton.proofs.Causes as causes
-use Rattle.automaton.proofs.Leaving as leaving
+use Rattle.records.proofs.Causes.{cause-of}
+use Rattle.automaton.proofs.TableCauses as causes
 use Rattle.automaton.proofs.Encoding as encoding
-use Rattle.automaton.proofs.StateSets as sets
-use Rattle.automaton.proofs.Meaning as meaning
+use Rattle.automaton.proofs.Held as meaning
 
 -- A table that is judged without a refusal is a well-formed automaton.
 pub judged-well-formed : (b : List ℕ) (A : Automaton) → judge b ≡ found A → WellFormed A
@@ -26,7 +28,7 @@ judged-well-formed = encoding.judge-well-formed
 
 -- One that is refused has one of causes 1 to 7.
 pub judge-causes : (b : List ℕ) (cause : ℕ) → judge b ≡ refused cause → (1 ≤ cause) × (cause ≤ 7)
-judge-causes b cause = causes.cause-of (causes.table-causes b)
+judge-causes b cause = cause-of (causes.table-causes b)
 
 -- Encoding what was judged gives the same bytes back.
 pub encode-judged : (b : List ℕ) (A : Automaton) → ((i : ℕ) → getD b i 0 < 256) → judge b ≡ found A → encode A ≡ b

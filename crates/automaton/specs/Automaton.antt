@@ -3,7 +3,7 @@ use Prim.Native.Nat.{ℕ, _≤_, _<_}
 use mathlib.Core.Path.{_≡_}
 use mathlib.Core.List.{List, map}
 use lib.ListN.{length, getD}
-use Rattle.automaton.specs.Lists.{All, Rising}
+use Rattle.lists.specs.Lists.{All, Rising}
 
 -- symbol(children) → target
 pub record Rule : Type 0 where

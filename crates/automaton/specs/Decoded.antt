@@ -1,15 +1,13 @@
 -- A decoded table: its counts, its final states as a set, the arrays that hold its ranks and its rules; and writing it.
 use Prim.Native.Nat.{ℕ}
 use mathlib.Core.Path.{_≡_}
-use mathlib.Core.List.{List, _++_}
-use mathlib.Core.Bool.{cond}
-use lib.ListN.{length, take, drop}
-use lib.Dec.{leb}
-use Rattle.automaton.specs.Lists.{from, keep}
+use mathlib.Core.List.{List}
+use lib.ListN.{length, take}
+use Rattle.lists.specs.Lists.{from, keep}
+use Rattle.sets.specs.Set.{member}
+use Rattle.records.specs.Read.{Read, found, mapRead}
 use Rattle.automaton.specs.Automaton.{Automaton}
 use Rattle.automaton.specs.Row.{rulesIn, Rows}
-use Rattle.automaton.specs.Read.{Read, found, refused, mapRead}
-use Rattle.automaton.specs.StateSet.{member}
 use Rattle.automaton.specs.Answers.{judgementOf}
 use Rattle.automaton.specs.declared.table.Size.{Size}
 use Rattle.automaton.specs.declared.decoding.Decoded.{Decoded}
@@ -29,14 +27,6 @@ automatonIn size finals ranks rows = record {
   finals = keep (member finals) (from 0 (size .states));
   rules = rulesIn rows (size .rules);
 }
-
--- Bytes written into a lent buffer: the answer, their length or 13 where the room is short, and the buffer afterwards,
--- in which what stands after the result stays.
-unfoldable pub written : List ℕ → List ℕ → Read ℕ
-written bytes out = cond (leb (length bytes) (length out)) (found (length bytes)) (refused 13)
-
-unfoldable pub writtenOver : List ℕ → List ℕ → List ℕ
-writtenOver bytes out = cond (leb (length bytes) (length out)) (bytes ++ drop (length bytes) out) out
 
 -- Decoding what was read of some bytes: the answer and, unless they are refused, arrays that hold the automaton.
 pub record Decodes (read : Read Automaton) (r : Decoded) (ranks rows : List ℕ) : Type 0 where

@@ -5,19 +5,18 @@ use mathlib.Core.Path.{_≡_}
 use mathlib.Core.List.{List}
 use lib.ListN.{length, drop}
 use lib.Dec.{leb, ltb, eqb}
-use lib.Seq.{paste}
-use Rattle.automaton.specs.Refusal.{numberOf}
-use Rattle.automaton.specs.Lists.{All, all, rising}
-use Rattle.automaton.specs.Bytes.{number2, numbers}
-use Rattle.automaton.specs.Record.{bodyOf}
-use Rattle.automaton.specs.Read.{Read, found, refused, _>>=_, _>>_, check}
+use Rattle.lists.specs.Lists.{All, all, rising}
+use Rattle.records.specs.Refusal.{numberOf}
+use Rattle.records.specs.Bytes.{number2, numbers}
+use Rattle.records.specs.Record.{bodyOf}
+use Rattle.records.specs.Read.{Read, found, refused, _>>=_, _>>_, check}
+use Rattle.automaton.specs.declared.table.Place.the-variants as place
+use Rattle.automaton.specs.declared.table.Verdict.the-variants as verdict
 use Rattle.automaton.specs.Table.{due}
 use Rattle.automaton.specs.Row.{width}
 use Rattle.automaton.specs.declared.table.Size.{Size}
 use Rattle.automaton.specs.declared.table.Place.{Place}
-use Rattle.automaton.specs.declared.table.Place.the-variants as place
 use Rattle.automaton.specs.declared.table.Verdict.{Verdict}
-use Rattle.automaton.specs.declared.table.Verdict.the-variants as verdict
 
 -- Whether reading passes, without what was read.
 unfoldable pub passing : {A : Type 0} → Read A → Read (Unit {0})
@@ -72,7 +71,3 @@ pub record RuleBody (b : List ℕ) : Type 0 where
 -- Room for a row to each rule that t may hold: a rule takes ten bytes at least.
 unfoldable pub RowsRoom : List ℕ → List ℕ → Type 0
 RowsRoom t rows = (k : ℕ) → k ≤ 1024 → 10 * k ≤ length t → width * k ≤ length rows
-
--- A buffer with some bytes written over what stood from `at` on.
-unfoldable pub over : List ℕ → ℕ → List ℕ → List ℕ
-over out at bytes = paste out at bytes (length bytes)

@@ -1,12 +1,6 @@
-pub mod Refusal
-pub mod Lists
-pub mod Bytes
-pub mod Record
+pub mod Answers
 pub mod Automaton
-pub mod Read
-pub mod Table
-pub mod StateSet
 pub mod Row
 pub mod Decoded
-pub mod Answers
+pub mod Table
 pub mod Inner

@@ -4,7 +4,7 @@ use Prim.Native.Nat.{ℕ, _+_, _*_, _≤_, _<_}
 use mathlib.Core.Path.{_≡_}
 use mathlib.Core.List.{List, map}
 use lib.ListN.{length, take, drop, getD}
-use Rattle.automaton.specs.Lists.{from}
+use Rattle.lists.specs.Lists.{from}
 use Rattle.automaton.specs.Automaton.{Rule}
 
 abbrev pub width : ℕ

@@ -3,12 +3,12 @@ use Prim.Native.Nat.{ℕ, zero, suc, _+_, _*_, _%_}
 use mathlib.Core.List.{List, [], _∷_, _++_}
 use lib.ListN.{length, drop, getD}
 use lib.Dec.{leb, ltb, eqb}
-use Rattle.automaton.specs.Lists.{all, rising}
-use Rattle.automaton.specs.Bytes.{number2, numbers, fields}
-use Rattle.automaton.specs.Record as records
-use Rattle.automaton.specs.Record.{Opening, opened, bodyOf, encodeRecord}
+use Rattle.lists.specs.Lists.{all, rising}
+use Rattle.records.specs.Record as records
+use Rattle.records.specs.Bytes.{number2, numbers, fields}
+use Rattle.records.specs.Record.{Opening, opened, bodyOf, encodeRecord}
+use Rattle.records.specs.Read.{Read, found, refused, _>>=_, _>>_, check}
 use Rattle.automaton.specs.Automaton.{Rule, Automaton}
-use Rattle.automaton.specs.Read.{Read, found, refused, _>>=_, _>>_, check}
 
 -- Where the next record ends: 1 where none opens, `missing` where nothing is left, 2 where it is not of the kind due.
 unfoldable pub dueIn : ℕ → ℕ → Opening → Read ℕ

@@ -3,20 +3,16 @@ ghost use mathlib.Core.Path.{_≡_};
 ghost use mathlib.Core.List.{List};
 ghost use Prim.Native.Nat.{ℕ, _≤_, _<_};
 ghost use lib.ListN.{length};
-ghost use Rattle.automaton.specs.Bytes.{numbers};
+ghost use Rattle.lists.specs.Lists.{All};
+ghost use Rattle.sets.specs.Set.{setOf};
+ghost use Rattle.records.specs.Bytes.{numbers};
+ghost use Rattle.records.specs.Read.{found};
+ghost use Rattle.automaton.specs.Table as table;
 ghost use Rattle.automaton.specs.Automaton.{Rule};
-ghost use Rattle.automaton.specs.Read.{found};
-ghost use Rattle.automaton.specs.Lists.{All};
-ghost use Rattle.automaton.specs.StateSet.{setOf};
 ghost use Rattle.automaton.specs.Row.{rulesIn, Rows};
 ghost use Rattle.automaton.specs.Inner.{passing, verdictOf, RowsRoom};
-ghost use Rattle.automaton.specs.Table as table;
 ghost use Rattle.automaton.specs.Decoded.{Decodes};
-use crate::bytes::number2;
-use crate::record::body;
-use crate::refusal::Refusal;
 use crate::row::put_row;
-use crate::set::StateSet;
 use crate::table::Judged;
 use crate::table::Place;
 use crate::table::Size;
@@ -27,7 +23,11 @@ use crate::table::next_rule;
 use crate::table::ranks_end;
 use crate::table::size_end;
 use crate::table::size_in;
-use crate::writing::put_bytes;
+use records::Refusal;
+use records::body;
+use records::number2;
+use records::put_bytes;
+use sets::StateSet;
 
 // What judging a table returns, and its final states, which mean nothing where it is refused.
 pub struct Decoded {

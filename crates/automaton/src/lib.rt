@@ -1,20 +1,16 @@
 // Reads and writes tables: bytes to an automaton or a refusal, and an automaton back to bytes.
 // What is above this crate works on decoded tables and never reads a table's bytes.
-mod bytes;
 mod decoding;
-mod record;
-mod refusal;
 mod row;
-mod set;
 mod table;
 mod writing;
 
-// Calls for everybody, with their answers: they ask nothing of their caller.
-pub use record::Opened;
-pub use record::body;
-pub use record::open;
-pub use refusal::Refusal;
-pub use refusal::number;
+// Calls for everybody, with their answers: they ask nothing of their caller. Those on records are passed on.
+pub use records::Opened;
+pub use records::Refusal;
+pub use records::body;
+pub use records::number;
+pub use records::open;
 pub use table::Judged;
 pub use table::Size;
 pub use table::judge;
@@ -30,7 +26,5 @@ pub use row::move_row;
 pub use row::rename_row;
 pub use row::symbol_of;
 pub use row::target_of;
-pub use set::StateSet;
 pub use writing::Written;
-pub use writing::put_bytes;
 pub use writing::write;

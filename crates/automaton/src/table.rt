@@ -4,20 +4,20 @@ ghost use mathlib.Core.List.{[]};
 ghost use Prim.Native.Nat.{ℕ, _≤_};
 ghost use lib.ListN.{length};
 ghost use lib.Dec.{leb, ltb};
-ghost use Rattle.automaton.specs.Refusal.{numberOf};
-ghost use Rattle.automaton.specs.Lists as lists;
-ghost use Rattle.automaton.specs.Bytes.{numbers};
-ghost use Rattle.automaton.specs.Read as read;
-ghost use Rattle.automaton.specs.Record.{bodyOf};
+ghost use Rattle.lists.specs.Lists as lists;
+ghost use Rattle.records.specs.Read as read;
+ghost use Rattle.records.specs.Refusal.{numberOf};
+ghost use Rattle.records.specs.Bytes.{numbers};
+ghost use Rattle.records.specs.Record.{bodyOf};
 ghost use Rattle.automaton.specs.Table as table;
 ghost use Rattle.automaton.specs.Answers.{judgementOf};
 ghost use Rattle.automaton.specs.Decoded.{sized};
 ghost use Rattle.automaton.specs.Inner.{passing, placeOf, verdictOf, sizeEnd, ranksEnd, finalsEnd, sizeIn};
-use crate::bytes::number2;
-use crate::record::Opened;
-use crate::record::body;
-use crate::record::open;
-use crate::refusal::Refusal;
+use records::Opened;
+use records::Refusal;
+use records::body;
+use records::number2;
+use records::open;
 
 // The counts of a table: n, m and k.
 pub struct Size {

@@ -3,73 +3,32 @@ ghost use mathlib.Core.Path.{_≡_};
 ghost use mathlib.Core.List.{_∷_, [], _++_};
 ghost use Prim.Native.Nat.{_+_, _*_, _≤_, _<_};
 ghost use lib.ListN.{length, take};
-ghost use Rattle.automaton.specs.Lists.{from, keep};
-ghost use Rattle.automaton.specs.Bytes.{bytes2, bytes4, fields};
-ghost use Rattle.automaton.specs.Record.{encodeRecord};
+ghost use Rattle.lists.specs.Lists.{from, keep};
+ghost use Rattle.lists.specs.Over.{over};
+ghost use Rattle.sets.specs.Set.{member};
+ghost use Rattle.records.specs.Bytes.{bytes2, bytes4, fields};
+ghost use Rattle.records.specs.Record.{encodeRecord};
+ghost use Rattle.records.specs.Output.{written, writtenOver};
 ghost use Rattle.automaton.specs.Automaton.{WellFormed};
 ghost use Rattle.automaton.specs.Table.{encode, encodeRule, encodeRules};
-ghost use Rattle.automaton.specs.StateSet.{member};
 ghost use Rattle.automaton.specs.Row.{ruleAt, rulesIn, Row, Rows};
-ghost use Rattle.automaton.specs.Decoded.{automatonIn, written, writtenOver};
+ghost use Rattle.automaton.specs.Decoded.{automatonIn};
 ghost use Rattle.automaton.specs.Answers.{writingOf};
-ghost use Rattle.automaton.specs.Inner.{over};
-use crate::refusal::Refusal;
 use crate::row::children_of;
 use crate::row::symbol_of;
 use crate::row::target_of;
-use crate::set::StateSet;
 use crate::table::Size;
+use records::Refusal;
+use records::put_bytes;
+use records::put_fields;
+use records::put_head;
+use records::put2;
+use sets::StateSet;
 
 // The length that was written, or the refusal.
 pub enum Written {
     Bytes(usize),
     Refused(Refusal),
-}
-
-// Two bytes from `at` on.
-fn put2(out: &mut [u8], at: usize, v: u16)
-    requires { ⌜ at + 2 ≤ length (now out) ⌝ }
-    ensures { λ _. ⌜ now (out .exit) ≡ over (now (out .entry)) at (bytes2 v) ⌝ }
-{
-    out[at] = (v % 256) as u8;
-    out[at + 1] = (v / 256 % 256) as u8;
-}
-
-// The length and the kind of a record whose body has `size` bytes.
-fn put_head(out: &mut [u8], at: usize, kind: u16, size: usize)
-    requires { ⌜ at + 6 ≤ length (now out) ⌝ }
-    requires { ⌜ size ≤ 65535 ⌝ }
-    ensures { λ _. ⌜ now (out .exit) ≡ over (now (out .entry)) at (bytes4 (2 + size) ++ bytes2 kind) ⌝ }
-{
-    let length = 2 + size;
-    put2(out, at, (length % 65536) as u16);
-    put2(out, at + 2, (length / 65536) as u16);
-    put2(out, at + 4, kind);
-}
-
-// The bytes of `src` as numbers, two bytes each.
-fn put_fields(out: &mut [u8], at: usize, src: &[u8])
-    requires { ⌜ at + 2 * length (now src) ≤ length (now out) ⌝ }
-    ensures { λ _. ⌜ now (out .exit) ≡ over (now (out .entry)) at (fields (now (src .entry))) ⌝ }
-{
-    let mut j: usize = 0;
-    while j < src.len() {
-        put2(out, at + 2 * j, src[j] as u16);
-        j += 1;
-    }
-}
-
-// The first `count` bytes of `src`.
-pub fn put_bytes(out: &mut [u8], at: usize, src: &[u8], count: usize)
-    requires { ⌜ at + count ≤ length (now out) ⌝ }
-    requires { ⌜ count ≤ length (now src) ⌝ }
-    ensures { λ _. ⌜ now (out .exit) ≡ over (now (out .entry)) at (take count (now (src .entry))) ⌝ }
-{
-    let mut j: usize = 0;
-    while j < count {
-        out[at + j] = src[j];
-        j += 1;
-    }
 }
 
 // State q as two bytes if it is in the set; the answer is where the next one goes.

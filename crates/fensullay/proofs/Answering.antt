@@ -5,12 +5,14 @@ use mathlib.Core.Path.{_≡_, refl, ap, subst, _∙_}
 use mathlib.Core.List.{List, _++_}
 use lib.ListN.{length, take, drop, getD, set}
 use borrow.Author.Tests.{le-leb, lt-leb}
-use Rattle.automaton.specs.Inner.{over}
-use Rattle.automaton.specs.Read.{Read, found, refused}
-use Rattle.automaton.proofs.WrittenBytes.{over-copy}
-use Rattle.simulation.specs.Check.{acceptanceOf, Checks}
+use Rattle.lists.specs.Over.{over}
+use Rattle.lists.proofs.Overwriting.{over-copy}
+use Rattle.records.specs.Read.{Read, found, refused}
+use Rattle.trees.specs.Answers.{acceptanceOf}
+use Rattle.simulation.specs.Check.{Checks}
 use Rattle.simulation.specs.declared.checking.Checked.{Checked}
-use Rattle.fensullay.specs.Exports.{codeOf, yesNoCodeOf, numbersAfter, ifRoom, countsIn, countsNumbers, checkCode, checkCounts, compareCode, ComparesInto}
+use Rattle.fensullay.specs.Exports.{codeOf, yesNoCodeOf, numbersAfter, ifRoom, countsIn, countsNumbers, checkCode, checkCounts}
+use Rattle.fensullay.specs.Exports.{compareCode, ComparesInto}
 
 pub enough-room : {A : Type 0} (need : ℕ) (array : List ℕ) (enough short : A) → need ≤ length array
     → enough ≡ ifRoom need array enough short

@@ -4,15 +4,15 @@ use native.Mathlib.Omega.{arith}
 use mathlib.Core.Path.{_≡_, refl, sym, ap, _∙_}
 use mathlib.Core.List.{List, _∷_}
 use lib.ListN.{length, drop}
+use Rattle.records.specs.Refusal.{numberOf}
+use Rattle.records.specs.Read.{Read, found, refused, mapRead, _>>=_}
+use Rattle.records.specs.declared.refusal.Refusal.{Refusal}
 use Rattle.automaton.specs.Automaton.{Automaton}
-use Rattle.automaton.specs.Refusal.{numberOf}
-use Rattle.automaton.specs.Read.{Read, found, refused, mapRead, _>>=_}
 use Rattle.automaton.specs.Table.{judge}
-use Rattle.automaton.specs.declared.refusal.Refusal.{Refusal}
+use Rattle.simulation.specs.declared.query.Compared.the-variants as compared
 use Rattle.simulation.specs.Query.{pairQuery, comparisonOf, isYes, Compares}
 use Rattle.simulation.specs.declared.query.Compared.{Compared}
-use Rattle.simulation.specs.declared.query.Compared.the-variants as compared
-use Rattle.reduction.proofs.Reporting.{refusal-few}
+use Rattle.reporting.proofs.Reporting.{refusal-few}
 use Rattle.fensullay.specs.Exports.{yesNoCodeOf, compareCode, NamesRule, ComparesInto}
 use Rattle.fensullay.proofs.Answering.{enough-room, names-none}
 

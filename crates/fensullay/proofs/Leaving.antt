@@ -5,8 +5,8 @@ use mathlib.Core.Bool.{Bool, true, false, cond}
 use mathlib.Core.List.{List}
 use lib.ListN.{length}
 use lib.Dec.{leb}
-use Rattle.automaton.specs.Read.{Read, found, refused}
-use Rattle.automaton.proofs.Leaving.{Keeps}
+use Rattle.records.specs.Read.{Read, found, refused}
+use Rattle.records.proofs.Buffers.{Keeps}
 use Rattle.fensullay.specs.Exports.{codeOf, numbersAfter, ifRoom}
 
 -- A call that does not return 0 has too short an array for its numbers, or refuses.

@@ -1,6 +1,6 @@
 pub mod Answering
 pub mod Comparing
-pub mod Reported
-pub mod Means
 pub mod Leaving
+pub mod Means
+pub mod Reported
 pub mod Theorems

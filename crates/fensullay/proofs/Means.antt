@@ -8,9 +8,9 @@ use mathlib.Core.Bool.{Bool, true, false, cond, true≢false, false≢true}
 use lib.ListN.{length}
 use lib.Dec.{leb}
 use borrow.Author.Tests.{leb-true, leb-false}
-use Rattle.automaton.specs.Read.{Read, found, refused}
-use Rattle.automaton.proofs.Inversion.{refused≢found}
-use Rattle.automaton.proofs.Causes.{Causes, finds, refuses}
+use Rattle.records.specs.Read.{Read, found, refused}
+use Rattle.records.proofs.Reading.{refused≢found}
+use Rattle.records.proofs.Causes.{Causes, finds, refuses}
 use Rattle.fensullay.specs.Exports.{codeOf, yesNoCodeOf, ifRoom}
 use Rattle.fensullay.specs.Means.{UpTo, UpToOr, Means, WorkMeans, YesNoMeans}
 

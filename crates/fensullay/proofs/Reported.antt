@@ -5,10 +5,10 @@ use mathlib.Core.Path.{_≡_, refl, sym, ap, _∙_}
 use mathlib.Core.List.{List, _∷_, _++_}
 use lib.ListN.{length, take, drop, length-append, length-drop}
 use lib.Seq.{take-at}
-use Rattle.automaton.specs.Read.{found}
-use Rattle.automaton.specs.Inner.{over}
-use Rattle.automaton.proofs.WrittenBytes.{room-enough, room-short}
-use Rattle.reduction.specs.Report.{report}
+use Rattle.lists.specs.Over.{over}
+use Rattle.records.specs.Read.{found}
+use Rattle.records.proofs.Buffers.{room-enough, room-short}
+use Rattle.reporting.specs.Report.{report}
 use Rattle.fensullay.specs.Exports.{lengthNumbers, reportCode, reportNumbers, reportOut}
 use Rattle.fensullay.proofs.Answering.{enough-room, refused-in, found-in}
 

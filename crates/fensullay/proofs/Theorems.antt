@@ -4,27 +4,28 @@ use native.Mathlib.Omega.{arith}
 use mathlib.Core.Path.{_≡_, refl, sym, _∙_}
 use mathlib.Core.List.{List, _++_}
 use lib.ListN.{length, take, drop, getD}
+use Rattle.records.specs.Read.{Read, found, refused, mapRead}
+use Rattle.records.specs.Output.{written}
+use Rattle.records.proofs.Causes.{causes}
 use Rattle.automaton.specs.Automaton.{Automaton}
-use Rattle.automaton.specs.Read.{Read, found, refused, mapRead}
 use Rattle.automaton.specs.Table.{judge}
-use Rattle.automaton.specs.Decoded.{sized, written}
-use Rattle.automaton.proofs.Causes.{causes, table-causes}
+use Rattle.automaton.specs.Decoded.{sized}
+use Rattle.automaton.proofs.TableCauses.{table-causes}
 use Rattle.automaton.proofs.Theorems.{writing-leaves}
 use Rattle.simulation.specs.Check.{acceptance}
 use Rattle.simulation.specs.Query.{relationQuery, pairQuery}
 use Rattle.simulation.proofs.Causes.{acceptance-causes, relation-causes, pair-causes}
 use Rattle.simulation.proofs.Theorems.{relation-leaves}
-use Rattle.reduction.specs.Reduce.{reduction, reductionAfter}
+use Rattle.reduction.specs.Reduce.{reduction}
 use Rattle.reduction.specs.Demand3.{Demand3}
-use Rattle.reduction.specs.Report.{report}
 use Rattle.reduction.specs.declared.reducing.Reduction.{Reduction}
-use Rattle.reduction.proofs.Rewritten.{reduction-causes}
+use Rattle.reduction.proofs.Answers.{reduction-causes}
 use Rattle.reduction.proofs.Theorems.{reduction-leaves, demand-3}
-use Rattle.reduction.proofs.Reporting as reporting
-use Rattle.fensullay.specs.Exports.{codeOf, numbersAfter, sizeNumbers, judgeCode, judgeNumbers, checkCode, checkCounts, compareCode, ComparesInto}
-use Rattle.fensullay.specs.Exports.{relationNumbers, relateCode, relateNumbers, relateOut}
-use Rattle.fensullay.specs.Exports.{reductionNumbers, reduceCode, reduceNumbers, reduceOut}
-use Rattle.fensullay.specs.Exports.{lengthNumbers, reportCode, reportNumbers, reportOut}
+use Rattle.reporting.specs.Report.{report}
+use Rattle.reporting.proofs.Reporting as reporting
+use Rattle.fensullay.specs.Exports.{codeOf, numbersAfter, sizeNumbers, judgeCode, judgeNumbers, checkCode, checkCounts, compareCode}
+use Rattle.fensullay.specs.Exports.{ComparesInto, relationNumbers, relateCode, relateNumbers, relateOut, reductionNumbers, reduceCode}
+use Rattle.fensullay.specs.Exports.{reduceNumbers, reduceOut, lengthNumbers, reportCode, reportNumbers, reportOut}
 use Rattle.fensullay.specs.Means.{UpTo, UpToOr, Just, WorkMeans, YesNoMeans}
 use Rattle.fensullay.proofs.Answering.{enough-room, too-few}
 use Rattle.fensullay.proofs.Means.{up-to-or, work-means, yes-no-means}

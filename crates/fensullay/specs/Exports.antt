@@ -5,17 +5,18 @@ use mathlib.Core.Bool.{Bool, true, false, cond}
 use mathlib.Core.List.{List, [], _∷_, _++_}
 use lib.ListN.{length, drop, getD}
 use lib.Dec.{leb}
+use Rattle.records.specs.Read.{Read, found, refused}
+use Rattle.records.specs.Output.{written, writtenOver}
 use Rattle.automaton.specs.Automaton.{Automaton}
-use Rattle.automaton.specs.Read.{Read, found, refused}
 use Rattle.automaton.specs.Table.{judge}
-use Rattle.automaton.specs.Decoded.{sized, written, writtenOver}
+use Rattle.automaton.specs.Decoded.{sized}
 use Rattle.automaton.specs.declared.table.Size.{Size}
 use Rattle.simulation.specs.Check.{acceptance, counted}
 use Rattle.simulation.specs.Query.{RoundsAndPairs, relationQuery, relationAfter, pairQuery, Unmatched}
 use Rattle.simulation.specs.declared.checking.Counts.{Counts}
 use Rattle.reduction.specs.Reduce.{reduction, reductionAfter}
-use Rattle.reduction.specs.Report.{report}
 use Rattle.reduction.specs.declared.reducing.Reduction.{Reduction}
+use Rattle.reporting.specs.Report.{report}
 
 -- The answer is one number: 0 where the call did its work, document 01's number where it refuses.
 unfoldable pub codeOf : {A : Type 0} → Read A → ℕ

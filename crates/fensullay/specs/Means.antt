@@ -5,7 +5,7 @@ use mathlib.Core.Logic.{_⊎_, _↔_}
 use mathlib.Core.Bool.{Bool, true, false}
 use mathlib.Core.List.{List}
 use lib.ListN.{length}
-use Rattle.automaton.specs.Read.{Read, found, refused}
+use Rattle.records.specs.Read.{Read, found, refused}
 
 -- The causes from 1 to a number; these or one more; one alone.
 abbrev pub UpTo : ℕ → ℕ → Type 0

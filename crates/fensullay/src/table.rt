@@ -5,10 +5,10 @@ use crate::numbers::put_all;
 use automaton::Judged;
 use automaton::judge;
 use automaton::number;
-use automaton::put_bytes;
+use records::put_bytes;
 use reduction::Reduced;
 use reduction::reduce;
-use reduction::report;
+use reporting::report;
 
 // Judges a table: 0, and its states, symbols and rules in `numbers`; or the refusal, 1 to 7; or 100 where `numbers` has fewer than 3.
 #[no_mangle]

@@ -6,34 +6,34 @@ use mathlib.Core.Logic.{_⊎_, _↔_}
 use mathlib.Core.List.{List, List·Memᴰ}
 use mathlib.Core.Bool.{true}
 use lib.ListN.{length, take, getD}
+use Rattle.lists.proofs.Booleans.{and-true-in, and-true-out}
+use Rattle.records.specs.Read.{found, refused}
+use Rattle.records.proofs.Causes.{cause-of}
 use Rattle.automaton.specs.Automaton.{Rule, Automaton, WellFormed}
-use Rattle.automaton.specs.Read.{found, refused}
 use Rattle.automaton.specs.Table.{judge, encode}
-use Rattle.automaton.proofs.Causes.{cause-of}
-use Rattle.simulation.specs.Tree.{Tree, Over}
-use Rattle.simulation.specs.Run.{Reaches, Accepts}
-use Rattle.simulation.specs.Simulation.{Simulates, related, relationAt}
-use Rattle.simulation.specs.Check.{acceptanceOf, acceptance, counted, Checks}
+use Rattle.trees.specs.Tree.{Tree, Over}
+use Rattle.trees.specs.Run.{Reaches, Accepts}
+use Rattle.trees.specs.Answers.{acceptanceOf}
+use Rattle.refinement.specs.Simulation.{Simulates, related, relationAt}
+use Rattle.refinement.proofs.Refinement as refinement
+use Rattle.simulation.specs.Check.{acceptance, counted, Checks}
 use Rattle.simulation.specs.declared.checking.Checked.{Checked}
 use Rattle.simulation.specs.declared.checking.Counts.{Counts}
-use Rattle.simulation.proofs.Refinement as refinement
-use Rattle.simulation.proofs.Search.{and-true-in, and-true-out}
-use Rattle.reduction.specs.Steps.{Stage, productive, trimmed, below, roundsIn, equivalent, representative, quotient, pruned, kept}
-use Rattle.reduction.specs.Reduce.{reduce, reductionRounds, reduction, reductionAfter}
-use Rattle.reduction.specs.Irreducible.{Irreducible}
+use Rattle.stages.specs.Steps.{Stage, productive, trimmed, below, roundsIn, equivalent, representative, quotient, pruned, kept, reduce}
+use Rattle.stages.specs.Steps.{reductionRounds}
+use Rattle.stages.specs.Irreducible.{Irreducible}
+use Rattle.stages.proofs.Trimming as trimming
+use Rattle.stages.proofs.Quotient as quot
+use Rattle.stages.proofs.Restricting as restricting
+use Rattle.stages.proofs.Soundness as soundness
+use Rattle.stages.proofs.Agreement as agreement
+use Rattle.stages.proofs.Sizes as counting
+use Rattle.stages.proofs.Usefulness.{run-over}
+use Rattle.reduction.specs.Reduce.{reduction, reductionAfter}
 use Rattle.reduction.specs.Demand3.{Demand3}
-use Rattle.reduction.specs.Report.{decimal, Numeral}
 use Rattle.reduction.specs.declared.reducing.Reduction.{Reduction}
-use Rattle.reduction.proofs.Trimming as trimming
-use Rattle.reduction.proofs.Quotient as quot
-use Rattle.reduction.proofs.Restricting as restricting
-use Rattle.reduction.proofs.Soundness as soundness
-use Rattle.reduction.proofs.Usefulness.{run-over}
-use Rattle.reduction.proofs.Agreement as agreement
-use Rattle.reduction.proofs.Counting as counting
-use Rattle.reduction.proofs.Decimal as digits
-use Rattle.reduction.proofs.Rewritten as rewritten
-use Rattle.reduction.proofs.Delivered as delivered
+use Rattle.reduction.proofs.Answers as rewritten
+use Rattle.reduction.proofs.Demand3 as delivered
 
 -- Of the steps.
 
@@ -172,7 +172,3 @@ module _ (table out : List ℕ) (r : Reduction) (bytes : List ℕ) (d : Demand3 
     h .answer ∙ d .same-answer tree ∙ sym (k .answer),
     h .counts-after ∙ same-counts ∙ sym (k .counts-after),
   )
-
--- The report's numbers: the digits of v read back give v, and the first is 0 only if it is the only one.
-pub decimal-numeral : (v : ℕ) → Numeral v (decimal v)
-decimal-numeral = digits.decimal-numeral

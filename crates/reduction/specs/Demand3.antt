@@ -5,17 +5,18 @@ use mathlib.Core.Path.{_≡_}
 use mathlib.Core.Logic.{_↔_}
 use mathlib.Core.List.{List, _++_}
 use lib.ListN.{length, take, drop}
+use Rattle.records.specs.Read.{found}
 use Rattle.automaton.specs.Automaton.{Automaton}
-use Rattle.automaton.specs.Read.{found}
 use Rattle.automaton.specs.Table.{judge}
-use Rattle.simulation.specs.Tree.{Tree, Over}
-use Rattle.simulation.specs.Run.{Accepts}
+use Rattle.trees.specs.Tree.{Tree, Over}
+use Rattle.trees.specs.Run.{Accepts}
 use Rattle.simulation.specs.Check.{acceptance}
-use Rattle.reduction.specs.Reduce.{reductionRounds, reduction, reductionAfter}
-use Rattle.reduction.specs.Irreducible.{Irreducible}
+use Rattle.stages.specs.Steps.{reductionRounds}
+use Rattle.stages.specs.Irreducible.{Irreducible}
+use Rattle.reduction.specs.declared.reducing.Reduced.the-variants as answers
+use Rattle.reduction.specs.Reduce.{reduction, reductionAfter}
 use Rattle.reduction.specs.declared.reducing.Reduction.{Reduction}
 use Rattle.reduction.specs.declared.reducing.Reduced.{Reduced}
-use Rattle.reduction.specs.declared.reducing.Reduced.the-variants as answers
 
 -- Handed in as the table, with some room, a table gives its own bytes and length, and loses no state and no rule.
 pub record Again (bytes room : List ℕ) : Type 0 where

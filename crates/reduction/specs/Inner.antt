@@ -2,27 +2,14 @@
 -- `getD` would give its default, are ruled out by the bounds in the contracts that cite these.
 use Prim.Native.Nat.{ℕ, _<_}
 use mathlib.Core.Path.{_≡_}
-use mathlib.Core.List.{List, [], _∷_, _++_, List·Memᴰ}
+use mathlib.Core.List.{List, List·Memᴰ}
 use mathlib.Core.Bool.{Bool, true, false, not, _&&_}
 use lib.ListN.{getD}
-use Rattle.automaton.specs.Lists.{All, Rising, all, from, keep}
+use Rattle.lists.specs.Lists.{all, from, keep, any}
+use Rattle.sets.specs.Set.{member, statesIn}
 use Rattle.automaton.specs.Automaton.{Rule}
-use Rattle.automaton.specs.StateSet.{member}
 use Rattle.automaton.specs.Row.{ruleAt, rulesIn}
-use Rattle.automaton.specs.declared.table.Size.{Size}
-use Rattle.simulation.specs.Tree.{any}
-use Rattle.simulation.specs.Words.{statesIn}
-use Rattle.reduction.specs.Steps.{Stage, sameRule}
-use Rattle.reduction.specs.Report.{line, reducedWord, statesWord, rulesWord, roundsWord}
-
--- The states and the final states rise, and the rules and the final states name no other states than these, all below 256.
-pub record Sound (S : Stage) : Type 0 where
-  pub rising : Rising (S .states)
-  pub low : All (λ (q : ℕ). q < 256) (S .states)
-  pub finals-rising : Rising (S .finals)
-  pub finals : (q : ℕ) → List·Memᴰ q (S .finals) → List·Memᴰ q (S .states)
-  pub targets : (u : Rule) → List·Memᴰ u (S .rules) → List·Memᴰ (u .target) (S .states)
-  pub children : (u : Rule) → List·Memᴰ u (S .rules) → (q : ℕ) → List·Memᴰ q (u .children) → List·Memᴰ q (S .states)
+use Rattle.stages.specs.Steps.{Stage, sameRule}
 
 -- The stage that decoded rules and sets of states below n hold.
 unfoldable pub stageIn : ℕ → List ℕ → List ℕ → List ℕ → ℕ → Stage
@@ -60,11 +47,3 @@ pub record ChildrenAdded (rules : List Rule) (before after : List ℕ) : Type 0 
   pub only : (test : ℕ → Bool) → ((q : ℕ) → q < 256 → member before q ≡ true → test q ≡ true)
       → ((u : Rule) → List·Memᴰ u rules → test (u .target) ≡ true → (q : ℕ) → List·Memᴰ q (u .children) → test q ≡ true)
       → (q : ℕ) → q < 256 → member after q ≡ true → test q ≡ true
-
--- The four lines on a table of one size and a reduced one of another.
-unfoldable pub reducedLines : Size → Size → ℕ → List ℕ
-reducedLines old new rounds =
-    line reducedWord []
-    ++ (line statesWord (old .states ∷ new .states ∷ [])
-    ++ (line rulesWord (old .rules ∷ new .rules ∷ [])
-    ++ line roundsWord (rounds ∷ [])))

@@ -2,26 +2,15 @@
 use Prim.Native.Nat.{ℕ}
 use mathlib.Core.List.{List}
 use lib.ListN.{length}
+use Rattle.records.specs.Refusal.{numberOf}
+use Rattle.records.specs.Read.{Read, found, refused, _>>=_}
+use Rattle.records.specs.Output.{written, writtenOver}
 use Rattle.automaton.specs.Automaton.{Automaton}
-use Rattle.automaton.specs.Refusal.{numberOf}
-use Rattle.automaton.specs.Read.{Read, found, refused, _>>=_}
 use Rattle.automaton.specs.Table.{judge, encode}
-use Rattle.automaton.specs.Decoded.{written, writtenOver}
-use Rattle.reduction.specs.Steps.{Stage, trimmed, below, roundsIn, quotient, pruned, restricted, numbered}
+use Rattle.stages.specs.Steps.{reduce, reductionRounds}
+use Rattle.reduction.specs.declared.reducing.Reduced.the-variants as answers
 use Rattle.reduction.specs.declared.reducing.Reduction.{Reduction}
 use Rattle.reduction.specs.declared.reducing.Reduced.{Reduced}
-use Rattle.reduction.specs.declared.reducing.Reduced.the-variants as answers
-
--- What steps 2 to 5 leave of a remainder; and the whole reduction, whose table `encode` writes.
-unfoldable pub shortened : Stage → Stage
-shortened S = restricted (pruned (below S) (quotient (below S) S))
-
-unfoldable pub reduce : Automaton → Automaton
-reduce A = numbered (A .ranks) (shortened (trimmed A))
-
--- The rounds of step 2.
-unfoldable pub reductionRounds : Automaton → ℕ
-reductionRounds A = roundsIn (trimmed A)
 
 -- The values and document 01's number for each case of the code's answer: the length, the old and new n and k, the rounds; or the
 -- refusal.

@@ -4,15 +4,14 @@ ghost use mathlib.Core.Bool.{true, _&&_};
 ghost use Prim.Native.Nat.{ℕ, _≤_, _<_};
 ghost use lib.ListN.{length};
 ghost use lib.Dec.{eqb};
-ghost use Rattle.automaton.specs.Lists.{from, keep};
-ghost use Rattle.automaton.specs.StateSet.{member};
-ghost use Rattle.simulation.specs.Tree.{any};
-ghost use Rattle.simulation.specs.Words.{statesIn, relationIn};
-ghost use Rattle.simulation.specs.Inner.{Has};
-ghost use Rattle.reduction.specs.Steps.{equivalent, firstOf, position};
+ghost use Rattle.lists.specs.Lists.{from, keep, any};
+ghost use Rattle.sets.specs.Set.{member, statesIn};
+ghost use Rattle.sets.specs.Inner.{Has};
+ghost use Rattle.refinement.specs.Words.{relationIn};
+ghost use Rattle.stages.specs.Steps.{equivalent, firstOf, position};
 ghost use Rattle.reduction.specs.Inner.{nameIn};
-use automaton::StateSet;
-use simulation::has_pair;
+use refinement::has_pair;
+use sets::StateSet;
 
 // The smallest state that is equivalent to q; q itself where none below it is.
 fn representative(words: &[u64; 1024], q: u8) -> u8

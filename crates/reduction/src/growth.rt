@@ -3,17 +3,17 @@ ghost use mathlib.Core.Path.{_≡_};
 ghost use mathlib.Core.Bool.{_&&_, _||_};
 ghost use Prim.Native.Nat.{ℕ, _≤_, _<_};
 ghost use lib.Dec.{eqb};
-ghost use Rattle.automaton.specs.Lists.{all, from};
-ghost use Rattle.automaton.specs.StateSet.{member};
+ghost use Rattle.lists.specs.Lists.{all, from, any, among};
+ghost use Rattle.sets.specs.Set.{member};
+ghost use Rattle.sets.specs.Inner.{Has};
 ghost use Rattle.automaton.specs.Row.{ruleAt, rulesIn, Row, Rows};
-ghost use Rattle.simulation.specs.Tree.{any};
-ghost use Rattle.simulation.specs.Inner.{Has};
-ghost use Rattle.reduction.specs.Steps.{Stage, among, closure, buildable, kept};
-ghost use Rattle.reduction.specs.Inner.{Sound, TargetsAdded, ChildrenAdded};
-use automaton::StateSet;
+ghost use Rattle.stages.specs.Steps.{Stage, closure, buildable, kept};
+ghost use Rattle.stages.specs.Inner.{Sound};
+ghost use Rattle.reduction.specs.Inner.{TargetsAdded, ChildrenAdded};
 use automaton::children_of;
 use automaton::target_of;
-use simulation::all_in;
+use sets::StateSet;
+use sets::all_in;
 
 // The set with the target of rule i, if all its children are in the set.
 fn with_target(set: StateSet, rows: &[u8], i: usize) -> StateSet

@@ -3,25 +3,25 @@ ghost use mathlib.Core.Path.{_≡_};
 ghost use mathlib.Core.Bool.{not, _&&_};
 ghost use Prim.Native.Nat.{ℕ, _≤_, _<_};
 ghost use lib.ListN.{length};
-ghost use Rattle.automaton.specs.Lists.{all};
+ghost use Rattle.lists.specs.Lists.{all};
+ghost use Rattle.sets.specs.Set.{member};
 ghost use Rattle.automaton.specs.Automaton.{Rule};
-ghost use Rattle.automaton.specs.StateSet.{member};
 ghost use Rattle.automaton.specs.Row.{ruleAt, rulesIn, Row, Rows};
-ghost use Rattle.simulation.specs.Simulation as simulation;
-ghost use Rattle.simulation.specs.Words.{relationIn};
-ghost use Rattle.simulation.specs.Index.{keyed};
-ghost use Rattle.reduction.specs.Steps.{sameStates, sameRule, dominated};
+ghost use Rattle.indexing.specs.Index.{keyed};
+ghost use Rattle.refinement.specs.Simulation as simulation;
+ghost use Rattle.refinement.specs.Words.{relationIn};
+ghost use Rattle.stages.specs.Steps.{sameStates, sameRule, dominated};
 ghost use Rattle.reduction.specs.Inner.{marked, isFirst};
-use automaton::StateSet;
 use automaton::children_of;
 use automaton::symbol_of;
 use automaton::target_of;
-use simulation::INDEX;
-use simulation::Key;
-use simulation::all_in;
-use simulation::index_rules;
-use simulation::is_matched_by;
-use simulation::rules_of;
+use indexing::INDEX;
+use indexing::Key;
+use indexing::index_rules;
+use indexing::rules_of;
+use refinement::is_matched_by;
+use sets::StateSet;
+use sets::all_in;
 
 // Marks the rules whose target and children are all in a set.
 pub fn mark_named(set: StateSet, rows: &[u8], k: usize, marks: &mut [bool])

@@ -6,10 +6,10 @@ ghost use Rattle.reduction.specs.Demand3.{MeetsDemand3};
 use crate::steps::reduce_rows;
 use automaton::Judged;
 use automaton::ROWS;
-use automaton::Refusal;
 use automaton::Written;
 use automaton::decode;
 use automaton::write;
+use records::Refusal;
 
 // The length of the reduced table, the states and rules of the table and of the reduced one, and the rounds of step 2, which are those of
 // the simulation on what step 1 leaves.

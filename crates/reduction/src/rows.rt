@@ -3,7 +3,7 @@ ghost use mathlib.Core.Path.{_≡_};
 ghost use mathlib.Core.List.{map};
 ghost use Prim.Native.Nat.{_≤_};
 ghost use lib.ListN.{length};
-ghost use Rattle.automaton.specs.Lists.{from, keep};
+ghost use Rattle.lists.specs.Lists.{from, keep};
 ghost use Rattle.automaton.specs.Automaton.{renamed};
 ghost use Rattle.automaton.specs.Row.{ruleAt, rulesIn, Rows};
 ghost use Rattle.reduction.specs.Inner.{nameIn, marked};

@@ -105,7 +105,7 @@ fn write_lines(r: Reduction) {
 fn write_report(t: &[u8]) {
     write_word(b"report\n");
     let mut lines = [0u8; 64];
-    let end = reduction::report(t, &mut lines);
+    let end = reporting::report(t, &mut lines);
     write_word(&lines[..end]);
 }
 

@@ -4,14 +4,15 @@ use native.Mathlib.Omega.{arith}
 use mathlib.Core.Path.{_≡_, refl}
 use mathlib.Core.Logic.{inr}
 use mathlib.Core.List.{List, [], _∷_}
+use Rattle.records.specs.Read.{Read, found, refused, _>>=_}
+use Rattle.records.specs.Output.{written}
+use Rattle.records.proofs.Causes.{Causes, finds, wider-causes, bind-causes, causes}
+use Rattle.records.proofs.Buffers.{Keeps, then-keeps, written-keeps}
 use Rattle.automaton.specs.Automaton.{Automaton}
-use Rattle.automaton.specs.Read.{Read, found, refused, _>>=_}
 use Rattle.automaton.specs.Table.{judge}
-use Rattle.automaton.specs.Decoded.{written}
-use Rattle.automaton.proofs.Causes.{Causes, finds, wider-causes, bind-causes, causes, table-causes, TableCauseOr, table-causes-or}
-use Rattle.automaton.proofs.Leaving.{Keeps, then-keeps, written-keeps}
-use Rattle.simulation.specs.Tree.{Tree}
-use Rattle.simulation.specs.Postfix.{push, pushAll, single, judgeTree}
+use Rattle.automaton.proofs.TableCauses.{table-causes, TableCauseOr, table-causes-or}
+use Rattle.trees.specs.Tree.{Tree}
+use Rattle.trees.specs.Postfix.{push, pushAll, single, judgeTree}
 use Rattle.simulation.specs.Check.{acceptance}
 use Rattle.simulation.specs.Query.{relationQuery, relationAfter, pairQuery}
 

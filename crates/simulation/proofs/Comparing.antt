@@ -3,23 +3,22 @@ use Prim.Native.Nat.{ℕ, suc, _-_}
 use native.Mathlib.Omega.{arith}
 use mathlib.Core.Path.{_≡_, refl, sym, ap, _∙_}
 use mathlib.Core.Logic.{_⊎_, inl, inr, _↔_}
-use mathlib.Core.List.{List, [], _∷_}
-use mathlib.Core.List.{List·Memᴰ, List·Memᴰ·head, List·Memᴰ·tail, List·Memᴰ·not-nil, List·Memᴰ·eq-of-singleton}
+use mathlib.Core.List.{List, [], _∷_, List·Memᴰ, List·Memᴰ·head, List·Memᴰ·tail, List·Memᴰ·not-nil, List·Memᴰ·eq-of-singleton}
 use mathlib.Core.Bool.{Bool, true, false, not, _&&_, false≢true}
 use lib.ListN.{length, drop, length-drop}
 use lib.Dec.{eqb}
 use borrow.Author.Tests.{eqb-true, eq-eqb, not-true}
-use Rattle.automaton.specs.Lists.{from, keep}
+use Rattle.lists.specs.Lists.{from, keep}
+use Rattle.lists.proofs.Keeping.{keep-in, keep-out}
+use Rattle.lists.proofs.Ranges.{from-member}
+use Rattle.lists.proofs.Booleans.{and-true-out}
+use Rattle.records.specs.Read.{Read, found, refused, mapRead}
+use Rattle.records.proofs.Reading.{refused≢found}
 use Rattle.automaton.specs.Automaton.{Rule, Automaton}
-use Rattle.automaton.specs.Read.{Read, found, refused, mapRead}
 use Rattle.automaton.specs.Table.{judge}
-use Rattle.automaton.proofs.Inversion.{refused≢found}
-use Rattle.automaton.proofs.Keeping.{keep-in, keep-out}
-use Rattle.automaton.proofs.Ranges.{from-member}
-use Rattle.simulation.specs.Simulation.{matched}
+use Rattle.refinement.specs.Simulation.{matched}
 use Rattle.simulation.specs.Query.{simulationOf, pairQuery, Unmatched, Comparison, yes, rule, comparisonOf, isYes, Compares}
 use Rattle.simulation.specs.declared.query.Compared.{Compared}
-use Rattle.simulation.proofs.Search.{and-true-out}
 
 -- The first of some rules is a rule of q that no rule of r matches; and the numbers of all such rules.
 unfoldable pub unmatchedFirst : Automaton → ℕ → ℕ → List Rule → Bool

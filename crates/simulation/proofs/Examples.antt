@@ -5,16 +5,15 @@ use mathlib.Core.Path.{_≡_, refl}
 use mathlib.Core.List.{List, [], _∷_, _++_}
 use lib.ListN.{replicate}
 use mathlib.Core.Bool.{true}
-use Rattle.automaton.specs.Lists.{all, rising, risingFrom, from, keep}
-use Rattle.automaton.specs.Bytes.{number2, number4, numbers, bytes2, bytes4, fields}
-use Rattle.automaton.specs.Record.{endOf, isWhole, opened, bodyIn, bodyOf, encodeRecord}
-use Rattle.automaton.specs.Read.{found, refused, _>>=_, _>>_, check}
+use Rattle.lists.specs.Lists.{all, rising, risingFrom, from, keep, any}
+use Rattle.records.specs.Bytes.{number2, number4, numbers, bytes2, bytes4, fields}
+use Rattle.records.specs.Record.{endOf, isWhole, opened, bodyIn, bodyOf, encodeRecord}
+use Rattle.records.specs.Read.{found, refused, _>>=_, _>>_, check}
 use Rattle.automaton.specs.Table.{dueIn, due, ruleIn, judgeRule, judgeRules, judgeFinals, judgeRanks, judge}
-use Rattle.simulation.specs.Postfix.{treesIn, push, pushAll, single, isTreeRecord, judgeTree}
+use Rattle.trees.specs.Postfix.{treesIn, push, pushAll, single, isTreeRecord, judgeTree}
+use Rattle.refinement.specs.Simulation.{related, paired, matchedBy, matched, survives, refine, allPairs, relationAt, settle, rounds}
+use Rattle.refinement.specs.Simulation.{relation}
 use Rattle.simulation.specs.Check.{acceptance}
-use Rattle.simulation.specs.Tree.{any}
-use Rattle.simulation.specs.Simulation.{related, paired, matchedBy, matched, every, survives, refine}
-use Rattle.simulation.specs.Simulation.{allPairs, relationAt, settle, rounds, relation}
 use Rattle.simulation.specs.Query.{simulationOf, relationQuery, pairQuery}
 
 -- Symbols a, b and f of ranks 0, 0 and 2; symbol 3 is unknown.
@@ -86,7 +85,7 @@ oneFinal =
     ++ encodeRecord 4 (fields (0 ∷ 1 ∷ [])))))
 
 pub final-below-other : pairQuery oneFinal 0 1 ≡ found true
-unfolding pairQuery simulationOf relation relationAt rounds settle allPairs refine keep survives matched every matchedBy paired related any from
+unfolding pairQuery simulationOf relation relationAt rounds settle allPairs refine keep survives matched matchedBy paired related any from
     judge judgeRanks judgeFinals judgeRules judgeRule ruleIn due dueIn opened isWhole endOf bodyOf bodyIn number2 number4 numbers
     encodeRecord bytes2 bytes4 fields all rising risingFrom check _>>=_ _>>_
 final-below-other = refl

@@ -2,22 +2,19 @@
 -- simulation, reflexive and transitive.
 use Prim.Native.Nat.{ℕ, _*_, _-_, _≤_, _<_}
 use native.Mathlib.Omega.{arith}
-use mathlib.Core.Path.{subst⁻¹, sym, ap, _∙_}
-use mathlib.Core.List.{List, List·Memᴰ, List·Memᴰ·head, List·Memᴰ·tail}
+use mathlib.Core.Path.{sym, ap, _∙_}
+use mathlib.Core.List.{List·Memᴰ}
 use lib.ListN.{getD}
-use Rattle.automaton.specs.Lists.{All, also, from}
+use Rattle.lists.specs.Lists.{from}
+use Rattle.lists.proofs.Ranges.{length-from, from-member, member-from}
+use Rattle.lists.proofs.Elements.{all-member}
 use Rattle.automaton.specs.Automaton.{Automaton, WellFormed}
-use Rattle.automaton.proofs.Ranges.{length-from, from-member, member-from}
-use Rattle.simulation.specs.Simulation.{Simulates}
+use Rattle.refinement.specs.Simulation.{Simulates}
+use Rattle.refinement.specs.Inner.{Simulable}
+use Rattle.refinement.proofs.Maximality as maximality
+use Rattle.refinement.proofs.Refinement.{Within}
+use Rattle.refinement.proofs.Maximality.{Closed}
 use Rattle.simulation.specs.Query.{simulationOf, roundsOf}
-use Rattle.simulation.specs.Inner.{Simulable}
-use Rattle.simulation.proofs.Refinement.{Within}
-use Rattle.simulation.proofs.Maximality as maximality
-use Rattle.simulation.proofs.Maximality.{Closed}
-
-pub all-member : {A : Type 0} {P : A → Type 0} {x : A} {xs : List A} → All P xs → List·Memᴰ x xs → P x
-all-member {P = P} (also p ps) (List·Memᴰ·head e) = subst⁻¹ P e p
-all-member (also p ps) (List·Memᴰ·tail m) = all-member ps m
 
 module _ (A : Automaton) (w : WellFormed A) where
   below-member : (q : ℕ) → q < A .states → List·Memᴰ q (from 0 (A .states))

@@ -1,73 +1,47 @@
 -- The two queries: what their loops scan, the relation that a decoded table gives, and the answers.
-use Prim.Native.Nat.{ℕ, suc, _+_, _*_, _/_, _%_, _^_, _≤_, _<_}
+use Prim.Native.Nat.{ℕ, _+_, _*_, _/_, _%_, _^_, _≤_, _<_}
 use mathlib.Core.Path.{_≡_, refl, sym, ap, _∙_}
 use mathlib.Core.Logic.{_⊎_, inl, inr, _↔_}
 use mathlib.Core.List.{List, [], _∷_}
 use mathlib.Core.Bool.{Bool, true, false, not, cond, _&&_, _||_, true≢false}
 use native.Mathlib.Nat.{zero-add}
-use native.Mathlib.Numerals.{add-one}
 use native.Mathlib.Omega.{arith}
 use lib.ListN.{length, getD, drop, drop-of-length-le}
-use lib.Seq.{drop-cons}
 use lib.Dec.{eqb, ltb}
 use borrow.Author.Tests.{eq-eqb, eqb-true, lt-ltb, le-ltb, not-false}
-use Rattle.automaton.specs.Lists.{Distinct, from}
+use Rattle.lists.specs.Lists.{Distinct, from, any, all}
+use Rattle.lists.specs.Over.{over}
+use Rattle.lists.proofs.Ranges.{length-from, from-member, member-from, from-distinct}
+use Rattle.lists.proofs.Booleans.{and-true-in, and-false-left, and-false-right, or-false-out}
+use Rattle.sets.proofs.StateSets.{bit}
+use Rattle.records.specs.Refusal.{numberOf}
+use Rattle.records.specs.Read.{found, refused, _>>=_, _>>_, check, mapRead}
+use Rattle.records.specs.declared.refusal.Refusal.{Refusal}
+use Rattle.records.specs.declared.refusal.Refusal.the-variants.{UnknownState, ShortOutput}
+use Rattle.records.proofs.Buffers.{room-enough, room-short}
 use Rattle.automaton.specs.Automaton.{Rule, Automaton, WellFormed}
-use Rattle.automaton.specs.Refusal.{numberOf}
-use Rattle.automaton.specs.Read.{Read, found, refused, _>>=_, _>>_, check, mapRead}
 use Rattle.automaton.specs.Row.{ruleAt, rulesIn}
 use Rattle.automaton.specs.Table.{judge}
-use Rattle.automaton.specs.Decoded.{Decodes, sizeOf, sized, automatonIn}
-use Rattle.automaton.specs.Answers.{judgementOf}
-use Rattle.automaton.specs.Inner.{over}
-use Rattle.automaton.specs.declared.refusal.Refusal.{Refusal}
-use Rattle.automaton.specs.declared.refusal.Refusal.the-variants.{UnknownState, ShortOutput}
+use Rattle.automaton.specs.Decoded.{sizeOf, automatonIn}
 use Rattle.automaton.specs.declared.table.Size.{Size}
-use Rattle.automaton.specs.declared.table.Judged.the-variants as judged
-use Rattle.automaton.specs.declared.decoding.Decoded.{Decoded}
-use Rattle.automaton.proofs.Inversion.{refused≢found}
-use Rattle.automaton.proofs.Meaning.{Held}
-use Rattle.automaton.proofs.StateSets.{bit}
-use Rattle.automaton.proofs.Ranges.{length-from, from-member, member-from, from-distinct}
-use Rattle.automaton.proofs.Rowing.{rules-at, rules-length, rule-in}
-use Rattle.automaton.proofs.WrittenBytes.{room-enough, room-short}
-use Rattle.simulation.specs.Tree.{any}
-use Rattle.simulation.specs.Simulation.{Relation, related, paired, matchedBy, matched, survives, every, relation, rounds}
-use Rattle.simulation.specs.Query.{simulationOf, roundsOf, relationBytes, relatedOf, relationQuery, relationAfter}
-use Rattle.simulation.specs.Query.{yes, rule, comparisonOf, isYes, pairQuery, Unmatched, Compares}
-use Rattle.simulation.specs.declared.query.Compared.{Compared}
+use Rattle.automaton.proofs.Held.{Held}
+use Rattle.automaton.proofs.Rows.{rules-at, rules-length, rule-in}
+use Rattle.indexing.specs.Index.{keyed}
+use Rattle.indexing.proofs.Indexing.{any-keyed}
+use Rattle.refinement.specs.Simulation.{Relation, related, matchedBy, matched, survives, relation, rounds}
+use Rattle.refinement.specs.Words.{relationIn}
+use Rattle.refinement.specs.Inner.{Simulable}
+use Rattle.refinement.proofs.Pairs.{pairsIn, survives-related, relation-length, relation-distinct}
 use Rattle.simulation.specs.declared.query.Compared.the-variants as compared
 use Rattle.simulation.specs.declared.query.Related.the-variants as answer
-use Rattle.simulation.specs.Words.{relationIn}
-use Rattle.simulation.specs.Index.{keyed}
-use Rattle.simulation.specs.Inner.{Simulable, bytesOf, onesOf, firstFailing, firstUnmatched, comparedBy}
-use Rattle.simulation.proofs.RelationWords.{bytes-rows, length-rows, rows-bit, ones-pairs}
-use Rattle.simulation.proofs.Pairs.{pairsIn, survives-related, relation-length, relation-distinct}
-use Rattle.simulation.proofs.Indexing.{any-keyed}
+use Rattle.simulation.specs.Query.{simulationOf, roundsOf, relationBytes, relatedOf, relationQuery, relationAfter, yes, rule}
+use Rattle.simulation.specs.Query.{comparisonOf, isYes, pairQuery, Unmatched, Compares}
+use Rattle.simulation.specs.declared.query.Compared.{Compared}
+use Rattle.simulation.specs.Inner.{bytesOf, onesOf, firstFailing, firstUnmatched, comparedBy}
+use Rattle.simulation.proofs.RelationBytes.{bytes-rows, length-rows, rows-bit, ones-pairs}
 use Rattle.simulation.proofs.Preorder.{preorder-states, simulable-all}
-use Rattle.simulation.proofs.Search.{and-true-in, and-false-left, and-false-right, or-false-out}
-
-pub and-left : {s : Bool} (t : Bool) → s ≡ true → (s && t) ≡ t
-and-left t h = rw h
 
 -- Children, pair by pair.
-
-pub paired-other : (R : Relation) (qs rs : List ℕ) → (length qs ≡ length rs → ⊥) → paired R qs rs ≡ false
-unfolding paired
-paired-other R [] [] d = absurd (d refl)
-paired-other R [] (r ∷ rs) d = refl
-paired-other R (q ∷ qs) [] d = refl
-paired-other R (q ∷ qs) (r ∷ rs) d = and-false-right (related R q r) (paired-other R qs rs (λ e. d (ap suc e)))
-
-module _ (R : Relation) (qs rs : List ℕ) (j : ℕ) where
-  pub paired-next : j < length qs → j < length rs
-      → paired R (drop j qs) (drop j rs) ≡ (related R (getD qs j 0) (getD rs j 0) && paired R (drop (j + 1) qs) (drop (j + 1) rs))
-  unfolding paired
-  paired-next h l = rw (add-one, drop-cons qs j 0 h, drop-cons rs j 0 l)
-
-  pub paired-end : length qs ≤ j → length rs ≤ j → paired R (drop j qs) (drop j rs) ≡ true
-  unfolding paired
-  paired-end h l = rw (drop-of-length-le qs h, drop-of-length-le rs l)
 
 -- Rules, one by one: u has another target than q or a match of target r.
 
@@ -103,12 +77,12 @@ record Failing {A : Type 0} (test : A → Bool) (xs : List A) : Type 0 where
   pub place : drop (firstFailing test xs) xs ≡ element ∷ behind
   pub fails : test element ≡ false
 
-first-fails : {A : Type 0} (test : A → Bool) (xs : List A) → every test xs ≡ false → Failing test xs
-unfolding every firstFailing
+first-fails : {A : Type 0} (test : A → Bool) (xs : List A) → all test xs ≡ false → Failing test xs
+unfolding all firstFailing
 first-fails test [] h = absurd (true≢false h)
 first-fails test (x ∷ xs) h = go (test x) refl h (first-fails test xs)
   where
-    go : (t : Bool) → test x ≡ t → (t && every test xs) ≡ false → (every test xs ≡ false → Failing test xs)
+    go : (t : Bool) → test x ≡ t → (t && all test xs) ≡ false → (all test xs ≡ false → Failing test xs)
         → Failing test (x ∷ xs)
     go true e h later =
         let f = later h in
@@ -144,16 +118,6 @@ pub target-below : (rows : List ℕ) (k n : ℕ) → Simulable (rulesIn rows k) 
 target-below rows k n s i h = rw zero-add at (member-from n 0 _ (s .targets _ (rule-in rows k i h)) .1)
 
 -- A refused table.
-
-refusal-judged : (x : Read Automaton) {cause : ℕ} → refused cause ≡ sized x → x ≡ refused cause
-unfolding sized mapRead
-refusal-judged (found A) h = absurd (refused≢found h)
-refusal-judged (refused cause) h = cc
-
-pub refused-judged : (b : List ℕ) (r : Decoded) (ranks rows : List ℕ) (cause : Refusal)
-    → Decodes (judge b) r ranks rows → r .judged ≡ judged.Refused cause → judge b ≡ refused (numberOf cause)
-unfolding judgementOf
-refused-judged b r ranks rows cause d e = refusal-judged (judge b) (ap judgementOf (sym e) ∙ d .answer)
 
 -- The relation query.
 

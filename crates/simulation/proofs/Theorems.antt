@@ -5,27 +5,27 @@ use mathlib.Core.Logic.{_⊎_, _↔_}
 use mathlib.Core.List.{List, List·Memᴰ}
 use mathlib.Core.Bool.{true, true≢false}
 use lib.ListN.{length, getD}
-use Rattle.automaton.specs.Lists.{Distinct, from}
+use Rattle.lists.specs.Lists.{Distinct, from}
+use Rattle.records.specs.Read.{found, refused}
+use Rattle.records.proofs.Causes.{cause-of}
 use Rattle.automaton.specs.Automaton.{Automaton, WellFormed}
-use Rattle.automaton.specs.Read.{found, refused}
 use Rattle.automaton.specs.Table.{judge}
-use Rattle.automaton.proofs.Causes.{cause-of}
 use Rattle.automaton.proofs.Theorems.{judged-well-formed}
-use Rattle.simulation.specs.Tree.{Tree, Over, belongs, accepts}
-use Rattle.simulation.specs.Run.{Reaches, Accepts}
-use Rattle.simulation.specs.Postfix.{judgeTree, postfix, peak, encodeTree}
+use Rattle.trees.specs.Tree.{Tree, Over, belongs, accepts}
+use Rattle.trees.specs.Run.{Reaches, Accepts}
+use Rattle.trees.specs.Postfix.{judgeTree, postfix, peak, encodeTree}
+use Rattle.trees.specs.declared.evaluation.Answer.the-variants.{Accepted, Rejected}
+use Rattle.trees.proofs.Runs as runs
+use Rattle.trees.proofs.Postfix as trees
+use Rattle.simulation.proofs.Acceptance as accepting
+use Rattle.refinement.specs.Simulation.{Matched, Simulates, related, relationAt}
+use Rattle.simulation.proofs.Language as language
+use Rattle.refinement.proofs.Refinement as refinement
 use Rattle.simulation.specs.Check.{acceptance, Checks}
 use Rattle.simulation.specs.declared.checking.Checked.{Checked}
 use Rattle.simulation.specs.declared.checking.Counts.{Counts}
-use Rattle.simulation.specs.declared.checking.Answer.the-variants.{Accepted, Rejected}
-use Rattle.simulation.specs.Simulation.{Matched, Simulates, related, relationAt}
 use Rattle.simulation.specs.Query.{simulationOf, roundsOf, relationBytes, relationQuery, relationAfter, pairQuery, Unmatched}
-use Rattle.simulation.proofs.Runs as runs
-use Rattle.simulation.proofs.Language as language
-use Rattle.simulation.proofs.Refinement as refinement
 use Rattle.simulation.proofs.Preorder as preorder
-use Rattle.simulation.proofs.Postfix as trees
-use Rattle.simulation.proofs.Accepting as accepting
 use Rattle.simulation.proofs.Queries as queries
 use Rattle.simulation.proofs.Causes as causes
 

@@ -3,22 +3,13 @@ use Prim.Native.Nat.{ℕ, _+_, min}
 use mathlib.Core.Path.{_≡_}
 use mathlib.Core.Bool.{Bool, true, false}
 use mathlib.Core.List.{List}
-use Rattle.automaton.specs.Automaton.{Automaton}
-use Rattle.automaton.specs.Refusal.{numberOf}
-use Rattle.automaton.specs.Read.{Read, found, refused, _>>=_}
+use Rattle.records.specs.Read.{Read, found, refused, _>>=_}
 use Rattle.automaton.specs.Table.{judge}
-use Rattle.simulation.specs.Tree.{accepts}
-use Rattle.simulation.specs.Postfix.{judgeTree}
+use Rattle.trees.specs.Tree.{accepts}
+use Rattle.trees.specs.Postfix.{judgeTree}
+use Rattle.trees.specs.Answers.{acceptanceOf}
 use Rattle.simulation.specs.declared.checking.Checked.{Checked}
 use Rattle.simulation.specs.declared.checking.Counts.{Counts}
-use Rattle.simulation.specs.declared.checking.Answer.{Answer}
-use Rattle.simulation.specs.declared.checking.Answer.the-variants.{Accepted, Rejected, Refused}
-
--- The values and document 01's number for each case of the code's answer: accepted or not, or the refusal.
-unfoldable pub acceptanceOf : Answer → Read Bool
-acceptanceOf Accepted = found true
-acceptanceOf Rejected = found false
-acceptanceOf (Refused cause) = refused (numberOf cause)
 
 -- The table is judged before the tree.
 unfoldable pub acceptance : List ℕ → List ℕ → Read Bool

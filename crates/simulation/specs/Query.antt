@@ -5,17 +5,17 @@ use mathlib.Core.Bool.{Bool, true, false, cond, _&&_}
 use mathlib.Core.List.{List, [], _∷_, _++_}
 use lib.ListN.{length, drop}
 use lib.Dec.{ltb}
-use Rattle.automaton.specs.Lists.{from}
-use Rattle.automaton.specs.Refusal.{numberOf}
+use Rattle.lists.specs.Lists.{from}
+use Rattle.records.specs.Refusal.{numberOf}
+use Rattle.records.specs.Read.{Read, found, refused, _>>=_, _>>_, mapRead, check}
+use Rattle.records.specs.Output.{written, writtenOver}
 use Rattle.automaton.specs.Automaton.{Rule, Automaton}
-use Rattle.automaton.specs.Read.{Read, found, refused, _>>=_, _>>_, mapRead, check}
 use Rattle.automaton.specs.Table.{judge}
-use Rattle.automaton.specs.Decoded.{written, writtenOver}
-use Rattle.simulation.specs.Simulation.{Relation, related, matched, relation, rounds}
-use Rattle.simulation.specs.declared.query.Compared.{Compared}
+use Rattle.refinement.specs.Simulation.{Relation, related, matched, relation, rounds}
 use Rattle.simulation.specs.declared.query.Compared.the-variants as compared
-use Rattle.simulation.specs.declared.query.Related.{Related}
 use Rattle.simulation.specs.declared.query.Related.the-variants as answers
+use Rattle.simulation.specs.declared.query.Compared.{Compared}
+use Rattle.simulation.specs.declared.query.Related.{Related}
 
 -- The simulation preorder of an automaton: q ≤ r on all its states; and its rounds.
 unfoldable pub simulationOf : Automaton → Relation

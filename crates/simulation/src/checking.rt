@@ -3,28 +3,23 @@ ghost use mathlib.Core.Path.{_≡_};
 ghost use Prim.Native.Nat.{_≤_};
 ghost use lib.ListN.{length};
 ghost use Rattle.automaton.specs.Inner.{RowsRoom};
+ghost use Rattle.indexing.specs.Index.{IndexRoom};
+ghost use Rattle.trees.specs.Answers.{acceptanceOf};
 ghost use Rattle.simulation.specs.Check as spec;
-ghost use Rattle.simulation.specs.Inner.{IndexRoom};
-use crate::evaluation::accept;
-use crate::index::FEW_INDEX;
-use crate::index::INDEX;
 use automaton::FEW_ROWS;
 use automaton::Judged;
 use automaton::ROWS;
-use automaton::Refusal;
 use automaton::decode;
+use indexing::FEW_INDEX;
+use indexing::INDEX;
+use trees::Answer;
+use trees::accept;
 
 // How many checks got each answer (document 01: the "gate"). A count stays at 4,294,967,295.
 pub struct Counts {
     pub accepted: u32,
     pub rejected: u32,
     pub refused: u32,
-}
-
-pub enum Answer {
-    Accepted,
-    Rejected,
-    Refused(Refusal),
 }
 
 pub struct Checked {
@@ -46,7 +41,7 @@ impl Counts {
 
     // One more of an answer.
     fn with(self, answer: Answer) -> Self
-        ensures { λ r. ⌜ r ≡ spec.counted self (spec.acceptanceOf answer) ⌝ }
+        ensures { λ r. ⌜ r ≡ spec.counted self (acceptanceOf answer) ⌝ }
     {
         match answer {
             Answer::Accepted => Counts {
@@ -89,7 +84,7 @@ pub fn check(counts: Counts, table: &[u8], tree: &[u8]) -> Checked
 // Whether a table accepts a tree, or the first cause of refusal. A rule takes ten bytes at least, so a short table gets short arrays, which
 // are cleared sooner.
 fn answer_for(table: &[u8], tree: &[u8]) -> Answer
-    ensures { λ r. ⌜ spec.acceptanceOf r ≡ spec.acceptance (now (table .entry)) (now (tree .entry)) ⌝ }
+    ensures { λ r. ⌜ acceptanceOf r ≡ spec.acceptance (now (table .entry)) (now (tree .entry)) ⌝ }
 {
     let mut ranks: [u8; 256] = [0; 256];
     if table.len() <= 1280 {
@@ -111,7 +106,7 @@ fn answer_in(
     index: &mut [u16],
 ) -> Answer
     requires { ⌜ (256 ≤ length (now ranks)) × (RowsRoom (now table) (now rows) × IndexRoom (now table) (now index)) ⌝ }
-    ensures { λ r. ⌜ spec.acceptanceOf r ≡ spec.acceptance (now (table .entry)) (now (tree .entry)) ⌝ }
+    ensures { λ r. ⌜ acceptanceOf r ≡ spec.acceptance (now (table .entry)) (now (tree .entry)) ⌝ }
 {
     let decoded = decode(table, ranks, rows);
     let finals = decoded.finals;

@@ -10,13 +10,13 @@ use automaton::Opened;
 use automaton::ROWS;
 use automaton::Refusal;
 use automaton::Size;
-use automaton::StateSet;
 use automaton::Written;
 use cases::add;
 use cases::add_all;
 use cases::end_line as end;
 use cases::write_number as number;
 use cases::write_word as word;
+use sets::StateSet;
 
 pub fn report(t: &[u8]) {
     records(t);

@@ -3,8 +3,8 @@ use Prim.Native.Nat.{_≤_, _<_, _-_}
 use mathlib.Core.Path.{_≡_}
 use lib.ListN.{length}
 use borrow.Author.Needs.{needs}
-use Rattle.cases.proofs.add_all.Statement.{statement}
 use Rattle.cases.proofs.add_all.Tie as tie
+use Rattle.cases.proofs.add_all.Statement.{statement}
 
 abbrev Inv-loop : tie.InvT-loop
 Inv-loop sum b s₀ i₀ i-end s i = (s < 4294967291) × ((i ≤ i-end) × (i-end ≡ length b))

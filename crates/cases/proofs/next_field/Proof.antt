@@ -8,8 +8,8 @@ use lib.ListN.{length, drop, length-append}
 use denote.Ref.{now}
 use lib.Seq.{length-take-le}
 use Rattle.io.specs.Counts.{Counts}
-use Rattle.cases.proofs.next_field.Statement.{statement}
 use Rattle.cases.proofs.next_field.Tie as tie
+use Rattle.cases.proofs.next_field.Statement.{statement}
 
 -- What counts bytes of a part at the start counts bytes of the whole.
 counts-front : (xs ys : List ℕ) (n : ℕ) → n ≤ length xs → Counts n (xs ++ ys)

@@ -4,8 +4,8 @@ use native.Mathlib.Omega.{arith}
 use mathlib.Core.Path.{sym}
 use mathlib.Core.List.{[], _∷_}
 use lib.Seq.{length-take-le}
-use Rattle.cases.proofs.number.Statement.{statement}
 use Rattle.cases.proofs.number.Tie as tie
+use Rattle.cases.proofs.number.Statement.{statement}
 
 slice-aggregate-read-full : tie.Need-slice-aggregate-read-full
 slice-aggregate-read-full c = sym (length-take-le _ (0 ∷ 0 ∷ 0 ∷ 0 ∷ []) (omega arith))

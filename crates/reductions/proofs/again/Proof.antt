@@ -3,8 +3,8 @@ use native.Mathlib.Omega.{arith}
 use mathlib.Core.Path.{sym}
 use lib.Seq.{length-take-le}
 use borrow.Author.Needs.{needs}
-use Rattle.reductions.proofs.again.Statement.{statement}
 use Rattle.reductions.proofs.again.Tie as tie
+use Rattle.reductions.proofs.again.Statement.{statement}
 
 slice-aggregate-reduce : tie.Need-slice-aggregate-reduce
 slice-aggregate-reduce c =

@@ -3,8 +3,8 @@ use native.Mathlib.Omega.{arith}
 use mathlib.Core.Path.{sym}
 use lib.Seq.{length-take-le}
 use borrow.Author.Needs.{needs}
-use Rattle.reductions.proofs.twice.Statement.{statement}
 use Rattle.reductions.proofs.twice.Tie as tie
+use Rattle.reductions.proofs.twice.Statement.{statement}
 
 slice-aggregate-again : tie.Need-slice-aggregate-again
 slice-aggregate-again c = sym (length-take-le _ _ (omega (arith, c .before .if1 .taken)))

@@ -3,8 +3,8 @@ use native.Mathlib.Omega.{arith}
 use mathlib.Core.Path.{sym}
 use lib.Seq.{length-take-le}
 use borrow.Author.Needs.{needs}
-use Rattle.reductions.proofs.with_room.Statement.{statement}
 use Rattle.reductions.proofs.with_room.Tie as tie
+use Rattle.reductions.proofs.with_room.Statement.{statement}
 
 slice-aggregate-twice : tie.Need-slice-aggregate-twice
 slice-aggregate-twice c =

@@ -1,8 +1,8 @@
 -- `relations::compare_all` is safe and ends: one comparison for each pair.
 use Prim.Native.Nat.{_≤_, _-_}
 use borrow.Author.Needs.{needs}
-use Rattle.relations.proofs.compare_all.Statement.{statement}
 use Rattle.relations.proofs.compare_all.Tie as tie
+use Rattle.relations.proofs.compare_all.Statement.{statement}
 
 abbrev Inv-loop : tie.InvT-loop
 Inv-loop t pairs counter₀ counter = counter ≤ pairs

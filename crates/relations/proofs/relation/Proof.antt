@@ -3,8 +3,8 @@ use native.Mathlib.Omega.{arith}
 use mathlib.Core.Path.{sym}
 use lib.Seq.{length-take-le}
 use borrow.Author.Needs.{needs}
-use Rattle.relations.proofs.relation.Statement.{statement}
 use Rattle.relations.proofs.relation.Tie as tie
+use Rattle.relations.proofs.relation.Statement.{statement}
 
 slice-aggregate-out : tie.Need-slice-aggregate-out
 slice-aggregate-out c =

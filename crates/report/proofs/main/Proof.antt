@@ -5,8 +5,8 @@ use mathlib.Core.Path.{sym, ap}
 use lib.ListN.{length, length-append}
 use lib.Seq.{length-take-le}
 use borrow.Author.Needs.{needs}
-use Rattle.report.proofs.main.Statement.{statement}
 use Rattle.report.proofs.main.Tie as tie
+use Rattle.report.proofs.main.Statement.{statement}
 
 within : (c : tie.After-report) → c .report .result ≤ length (c .report .last .1 .0)
 within c =

@@ -1,8 +1,8 @@
 -- `tables::main` is safe and ends: it runs a bounded number of cases.
 use Prim.Native.Nat.{_≤_}
 use borrow.Author.Needs.{needs}
-use Rattle.tables.proofs.main.Statement.{statement}
 use Rattle.tables.proofs.main.Tie as tie
+use Rattle.tables.proofs.main.Statement.{statement}
 
 abbrev Inv-loop : tie.InvT-loop
 Inv-loop left₀ left = left ≤ 1000000

@@ -3,15 +3,15 @@ use borrow.Author.Needs.{needs}
 use native.Mathlib.Omega.{arith}
 use mathlib.Core.Path.{_≡_}
 use denote.Ref.{now}
-use Rattle.automaton.specs.Read.{found, _>>=_}
+use Rattle.lists.proofs.Arrays.{part-to-end}
+use Rattle.records.specs.Read.{found, _>>=_}
+use Rattle.records.proofs.Answers.{told}
+use Rattle.records.proofs.Opening.{opened-within}
 use Rattle.automaton.specs.Inner.{placeOf, sizeEnd, sizeIn}
-use Rattle.automaton.proofs.Scanning.{part-to-end}
-use Rattle.automaton.proofs.Answered.{told}
-use Rattle.automaton.proofs.Opening.{opened-within}
-use Rattle.automaton.proofs.Inversion.{judge-split, size-end-found}
-use Rattle.automaton.proofs.Filling.{room-behind, refused-decodes}
-use Rattle.automaton.proofs.decoding.decode.Statement.{statement}
 use Rattle.automaton.proofs.decoding.decode.Tie as tie
+use Rattle.automaton.proofs.Inversion.{judge-split, size-end-found}
+use Rattle.automaton.proofs.decoding.Filling.{room-behind, refused-decodes}
+use Rattle.automaton.proofs.decoding.decode.Statement.{statement}
 
 end-is : (c : tie.After-known-told2)
     → sizeEnd (now (c .before .before .before .before .before .before .before .args .t)) ≡ found (c .before .end .given .0 .0)

@@ -3,17 +3,17 @@ use borrow.Author.Needs.{needs}
 use native.Mathlib.Omega.{arith}
 use mathlib.Core.Path.{_≡_, refl}
 use denote.Ref.{now}
-use Rattle.automaton.specs.Read.{found, _>>=_}
+use Rattle.lists.proofs.Arrays.{part-to-end}
+use Rattle.lists.proofs.Elements.{all-map}
+use Rattle.records.specs.Read.{found, _>>=_}
+use Rattle.records.proofs.Answers.{told}
+use Rattle.records.proofs.Opening.{opened-within}
 use Rattle.automaton.specs.Inner.{placeOf, verdictOf, finalsEnd}
-use Rattle.automaton.proofs.Scanning.{part-to-end}
-use Rattle.automaton.proofs.Answered.{told}
-use Rattle.automaton.proofs.Opening.{opened-within}
-use Rattle.automaton.proofs.Elements.{all-map}
-use Rattle.automaton.proofs.Inversion.{finals-split, finals-end-found}
-use Rattle.automaton.proofs.Judging.{passing-refused, passing-found}
-use Rattle.automaton.proofs.Filling.{room-behind, refused-decodes, finals-decode}
-use Rattle.automaton.proofs.decoding.decode_finals.Statement.{statement}
 use Rattle.automaton.proofs.decoding.decode_finals.Tie as tie
+use Rattle.automaton.proofs.Inversion.{finals-split, finals-end-found}
+use Rattle.automaton.proofs.table.Judging.{passing-refused, passing-found}
+use Rattle.automaton.proofs.decoding.Filling.{room-behind, refused-decodes, finals-decode}
+use Rattle.automaton.proofs.decoding.decode_finals.Statement.{statement}
 
 returns : tie.Need-returns
 unfolding placeOf _>>=_

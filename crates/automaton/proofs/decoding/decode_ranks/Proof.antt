@@ -6,17 +6,17 @@ use mathlib.Core.List.{[], _++_}
 use lib.ListN.{length, drop}
 use lib.Seq.{take-length}
 use denote.Ref.{now}
-use Rattle.automaton.specs.Record.{bodyOf}
-use Rattle.automaton.specs.Read.{found, _>>=_}
+use Rattle.lists.proofs.Arrays.{part-to-end}
+use Rattle.lists.proofs.Overwriting.{over-behind}
+use Rattle.records.specs.Record.{bodyOf}
+use Rattle.records.specs.Read.{found, _>>=_}
+use Rattle.records.proofs.Answers.{told}
+use Rattle.records.proofs.Opening.{opened-within}
 use Rattle.automaton.specs.Inner.{placeOf, ranksEnd}
-use Rattle.automaton.proofs.Scanning.{part-to-end}
-use Rattle.automaton.proofs.Answered.{told}
-use Rattle.automaton.proofs.Opening.{opened-within}
-use Rattle.automaton.proofs.WrittenBytes.{over-behind}
-use Rattle.automaton.proofs.Inversion.{ranks-split, ranks-end-found}
-use Rattle.automaton.proofs.Filling.{room-behind, refused-decodes, ranks-decode}
-use Rattle.automaton.proofs.decoding.decode_ranks.Statement.{statement}
 use Rattle.automaton.proofs.decoding.decode_ranks.Tie as tie
+use Rattle.automaton.proofs.Inversion.{ranks-split, ranks-end-found}
+use Rattle.automaton.proofs.decoding.Filling.{room-behind, refused-decodes, ranks-decode}
+use Rattle.automaton.proofs.decoding.decode_ranks.Statement.{statement}
 
 end-is : (c : tie.After-known-told2)
     → let a = c .before .before .before .before .before .before .before .args in

@@ -3,20 +3,20 @@ use borrow.Author.Needs.{needs}
 use Prim.Native.Nat.{_-_}
 use mathlib.Core.Path.{_≡_, sym, _∙_}
 use denote.Ref.{now}
-use Rattle.automaton.specs.Record.{bodyOf}
-use Rattle.automaton.specs.Read.{found, refused}
+use Rattle.lists.proofs.Arrays.{part-to-end}
+use Rattle.records.specs.Record.{bodyOf}
+use Rattle.records.specs.Read.{found, refused}
+use Rattle.records.specs.Refusal.{numberOf}
+use Rattle.records.proofs.Answers.{told}
+use Rattle.records.proofs.Reading.{refused≢found}
 use Rattle.automaton.specs.Row.{Puts}
 use Rattle.automaton.specs.Table.{ruleIn, judgeRules}
-use Rattle.automaton.specs.Refusal.{numberOf}
 use Rattle.automaton.specs.Inner.{passing, placeOf, verdictOf}
-use Rattle.automaton.proofs.Scanning.{part-to-end}
-use Rattle.automaton.proofs.Answered.{told}
-use Rattle.automaton.proofs.Inversion.{refused≢found}
-use Rattle.automaton.proofs.Judging.{nextRule, next-found}
-use Rattle.automaton.proofs.Filling.{rule-body, Reached, none-reached, reached-refused, next-room, next-reached}
-use Rattle.automaton.proofs.Filling.{end-reached, all-reached}
-use Rattle.automaton.proofs.decoding.decode_rules.Statement.{statement}
 use Rattle.automaton.proofs.decoding.decode_rules.Tie as tie
+use Rattle.automaton.proofs.table.Judging.{nextRule, next-found}
+use Rattle.automaton.proofs.decoding.Filling.{rule-body, Reached, none-reached, reached-refused, next-room, next-reached}
+use Rattle.automaton.proofs.decoding.Filling.{end-reached, all-reached}
+use Rattle.automaton.proofs.decoding.decode_rules.Statement.{statement}
 
 abbrev Inv-loop : tie.InvT-loop
 Inv-loop t n ranks k rows₀ rest₀ i₀ rows rest i = Reached n ranks k t rows₀ rows rest i

@@ -6,13 +6,13 @@ use mathlib.Core.Path.{_≡_, sym, _∙_}
 use mathlib.Core.List.{_∷_}
 use denote.Ref.{now}
 use lib.ListN.{length, drop}
-use Rattle.automaton.specs.Lists.{All}
-use Rattle.automaton.specs.Bytes.{number2, numbers}
-use Rattle.automaton.specs.StateSet.{withAll, setOf}
-use Rattle.automaton.proofs.Fields.{numbers-step, numbers-end}
-use Rattle.automaton.proofs.Elements.{all-first, all-rest}
-use Rattle.automaton.proofs.decoding.set_of.Statement.{statement}
+use Rattle.lists.specs.Lists.{All}
+use Rattle.lists.proofs.Elements.{all-first, all-rest}
+use Rattle.sets.specs.Set.{withAll, setOf}
+use Rattle.records.specs.Bytes.{number2, numbers}
+use Rattle.records.proofs.Fields.{numbers-step, numbers-end}
 use Rattle.automaton.proofs.decoding.set_of.Tie as tie
+use Rattle.automaton.proofs.decoding.set_of.Statement.{statement}
 
 abbrev Inv-loop : tie.InvT-loop
 Inv-loop b set₀ i₀ set i =

@@ -2,8 +2,8 @@
 use borrow.Author.Needs.{needs}
 use native.Mathlib.Nat.{add-sub-cancel-left}
 use Rattle.automaton.specs.Row.{ruleAt}
-use Rattle.automaton.proofs.row.children_of.Statement.{statement}
 use Rattle.automaton.proofs.row.children_of.Tie as tie
+use Rattle.automaton.proofs.row.children_of.Statement.{statement}
 
 returns : tie.Need-returns
 unfolding ruleAt

@@ -6,9 +6,9 @@ use mathlib.Core.Path.{_≡_, _∙_}
 use lib.ListN.{getD}
 use Prim.Native.Nat.{_+_, _*_}
 use Rattle.automaton.specs.Row.{width, ruleAt}
-use Rattle.automaton.proofs.Rowing.{length-children}
-use Rattle.automaton.proofs.row.children_of_rank.Statement.{statement}
 use Rattle.automaton.proofs.row.children_of_rank.Tie as tie
+use Rattle.automaton.proofs.Rows.{length-children}
+use Rattle.automaton.proofs.row.children_of_rank.Statement.{statement}
 
 rank-is : (c : tie.Start) → c .args .rank ≡ getD (c .args .rows .now) (width * c .args .i + 2) 0
 rank-is c = c .pre .1 ∙ length-children (c .pre .0)

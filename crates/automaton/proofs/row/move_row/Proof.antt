@@ -6,9 +6,9 @@ use native.Mathlib.Omega.{arith}
 use lib.ListN.{getD}
 use denote.Ref.{now}
 use Rattle.automaton.specs.Row.{width, ruleAt}
-use Rattle.automaton.proofs.Rowing.{children-few, rule-bytes, Stored, stored-none, stored-next, stored-puts}
-use Rattle.automaton.proofs.row.move_row.Statement.{statement}
 use Rattle.automaton.proofs.row.move_row.Tie as tie
+use Rattle.automaton.proofs.Rows.{children-few, rule-bytes, Stored, stored-none, stored-next, stored-puts}
+use Rattle.automaton.proofs.row.move_row.Statement.{statement}
 
 abbrev Inv-loop : tie.InvT-loop
 Inv-loop rows₀ i j c₀ rows c = (c ≤ width) × Stored rows₀ (width * j) (λ (k : ℕ). getD rows₀ (width * i + k) 0) c rows

@@ -7,10 +7,10 @@ use lib.ListN.{length, getD, set, length-set}
 use denote.Ref.{now}
 use Rattle.automaton.specs.Table.{ruleIn}
 use Rattle.automaton.specs.Row.{width}
-use Rattle.automaton.proofs.Rowing.{bytesOf, child-byte, Stored, stored-none, stored-next, stored-both, stored-puts}
-use Rattle.automaton.proofs.Rowing.{body-byte, body-child, body-rank}
-use Rattle.automaton.proofs.row.put_row.Statement.{statement}
 use Rattle.automaton.proofs.row.put_row.Tie as tie
+use Rattle.automaton.proofs.Rows.{bytesOf, child-byte, Stored, stored-none, stored-next, stored-both, stored-puts, body-byte}
+use Rattle.automaton.proofs.Rows.{body-child, body-rank}
+use Rattle.automaton.proofs.row.put_row.Statement.{statement}
 
 abbrev Inv-loop : tie.InvT-loop
 Inv-loop b rows₀ i rank j₀ rows j = (j ≤ rank) × Stored rows₀ (width * i + 3) (λ (c : ℕ). getD b (4 + 2 * c) 0) j rows

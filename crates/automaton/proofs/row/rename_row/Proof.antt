@@ -9,10 +9,10 @@ use lib.Seq.{getD-set-other}
 use denote.Ref.{now}
 use Rattle.automaton.specs.Automaton.{renamed}
 use Rattle.automaton.specs.Row.{width, ruleAt}
-use Rattle.automaton.proofs.Rowing.{bytesOf, child-byte, renamed-rank, renamed-child}
-use Rattle.automaton.proofs.Rowing.{Stored, stored-none, stored-next, stored-still, stored-both, stored-puts}
-use Rattle.automaton.proofs.row.rename_row.Statement.{statement}
 use Rattle.automaton.proofs.row.rename_row.Tie as tie
+use Rattle.automaton.proofs.Rows.{bytesOf, child-byte, renamed-rank, renamed-child, Stored, stored-none, stored-next, stored-still}
+use Rattle.automaton.proofs.Rows.{stored-both, stored-puts}
+use Rattle.automaton.proofs.row.rename_row.Statement.{statement}
 
 abbrev Inv-loop : tie.InvT-loop
 Inv-loop rows₀ i names target rank j₀ rows j =

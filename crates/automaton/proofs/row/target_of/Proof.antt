@@ -2,8 +2,8 @@
 use borrow.Author.Needs.{needs}
 use mathlib.Core.Path.{refl}
 use Rattle.automaton.specs.Row.{ruleAt}
-use Rattle.automaton.proofs.row.target_of.Statement.{statement}
 use Rattle.automaton.proofs.row.target_of.Tie as tie
+use Rattle.automaton.proofs.row.target_of.Statement.{statement}
 
 returns : tie.Need-returns
 unfolding ruleAt

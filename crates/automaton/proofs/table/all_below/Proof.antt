@@ -8,11 +8,11 @@ use mathlib.Core.Bool.{Bool}
 use lib.ListN.{length, drop}
 use lib.Dec.{ltb}
 use denote.Ref.{now}
-use Rattle.automaton.specs.Lists.{all}
-use Rattle.automaton.specs.Bytes.{numbers}
-use Rattle.automaton.proofs.Scanning.{fields-stop, fields-go-on, fields-end}
-use Rattle.automaton.proofs.table.all_below.Statement.{statement}
+use Rattle.lists.specs.Lists.{all}
+use Rattle.records.specs.Bytes.{numbers}
 use Rattle.automaton.proofs.table.all_below.Tie as tie
+use Rattle.automaton.proofs.table.Scanning.{fields-stop, fields-go-on, fields-end}
+use Rattle.automaton.proofs.table.all_below.Statement.{statement}
 
 abbrev below : ℕ → ℕ → Bool
 below n q = ltb q n

@@ -6,10 +6,10 @@ use mathlib.Core.Bool.{Bool}
 use borrow.Author.Tests.{le-leb, lt-leb}
 use lib.ListN.{length, drop}
 use lib.Dec.{leb}
-use Rattle.automaton.specs.Lists.{all}
-use Rattle.automaton.proofs.Scanning.{bytes-stop, bytes-go-on, bytes-end}
-use Rattle.automaton.proofs.table.all_ranks.Statement.{statement}
+use Rattle.lists.specs.Lists.{all}
+use Rattle.lists.proofs.Search.{all-stop, all-go-on, all-end}
 use Rattle.automaton.proofs.table.all_ranks.Tie as tie
+use Rattle.automaton.proofs.table.all_ranks.Statement.{statement}
 
 abbrev is-rank : ℕ → Bool
 is-rank x = leb x 8
@@ -23,15 +23,15 @@ abbrev μ-loop : tie.MeasureT-loop
 returns : tie.Need-returns Inv-loop μ-loop
 returns c =
     let l = c .before .before .before .loop in
-    sym (l .inv .1 ∙ bytes-stop is-rank _ (l .i) (search needs) (lt-leb _ 8 (c .if1 .taken)))
+    sym (l .inv .1 ∙ all-stop is-rank _ (l .i) (search needs) (lt-leb _ 8 (c .if1 .taken)))
 
 loop-again : tie.Need-loop-again Inv-loop μ-loop
 loop-again c =
     let l = c .before .before .before .loop in
-    (search needs, l .inv .1 ∙ bytes-go-on is-rank _ (l .i) (search needs) (le-leb _ 8 (c .if1 .left)))
+    (search needs, l .inv .1 ∙ all-go-on is-rank _ (l .i) (search needs) (le-leb _ 8 (c .if1 .left)))
 
 returns-2 : tie.Need-returns-2 Inv-loop μ-loop
-returns-2 c = let l = c .before .loop in sym (l .inv .1 ∙ bytes-end is-rank _ (l .i) (search needs))
+returns-2 c = let l = c .before .loop in sym (l .inv .1 ∙ all-end is-rank _ (l .i) (search needs))
 
 pub all-ranks-spec : {M : Type 1} → statement M
 all-ranks-spec =

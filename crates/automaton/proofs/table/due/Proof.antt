@@ -1,13 +1,13 @@
 -- `automaton::table::due` meets its contract: each return is one of the cases of `dueIn`.
 use borrow.Author.Needs.{needs}
 use borrow.Author.Tests.{eq-eqb, ne-eqb}
-use Rattle.automaton.specs.Read.{_>>_, check}
+use Rattle.records.specs.Read.{_>>_, check}
+use Rattle.records.specs.Answers.{openingOf}
+use Rattle.records.proofs.Answers.{told, nothing-left}
 use Rattle.automaton.specs.Table.{due, dueIn}
-use Rattle.automaton.specs.Answers.{openingOf}
 use Rattle.automaton.specs.Inner.{placeOf}
-use Rattle.automaton.proofs.Answered.{told, nothing-left}
-use Rattle.automaton.proofs.table.due.Statement.{statement}
 use Rattle.automaton.proofs.table.due.Tie as tie
+use Rattle.automaton.proofs.table.due.Statement.{statement}
 
 returns : tie.Need-returns
 unfolding placeOf openingOf due dueIn

@@ -4,20 +4,20 @@ use native.Mathlib.Omega.{arith}
 use mathlib.Core.Path.{_≡_, sym}
 use denote.Ref.{now}
 use lib.ListN.{drop}
-use Rattle.automaton.specs.Bytes.{number2}
-use Rattle.automaton.specs.Record.{bodyOf}
-use Rattle.automaton.specs.Read.{found, _>>=_, mapRead}
+use Rattle.lists.proofs.Arrays.{part-to-end}
+use Rattle.records.specs.Bytes.{number2}
+use Rattle.records.specs.Record.{bodyOf}
+use Rattle.records.specs.Read.{found, _>>=_, mapRead}
+use Rattle.records.proofs.Answers.{told}
+use Rattle.records.proofs.Opening.{opened-within}
 use Rattle.automaton.specs.Table.{judgeRanks}
 use Rattle.automaton.specs.Decoded.{sized}
 use Rattle.automaton.specs.Answers.{judgementOf}
 use Rattle.automaton.specs.Inner.{passing, placeOf, verdictOf, sizeEnd, sizeIn}
-use Rattle.automaton.proofs.Answered.{told}
-use Rattle.automaton.proofs.Scanning.{part-to-end}
-use Rattle.automaton.proofs.Opening.{opened-within}
-use Rattle.automaton.proofs.Inversion.{judge-split, size-end-found}
-use Rattle.automaton.proofs.Judging.{sized-refused, sized-passes}
-use Rattle.automaton.proofs.table.judge.Statement.{statement}
 use Rattle.automaton.proofs.table.judge.Tie as tie
+use Rattle.automaton.proofs.Inversion.{judge-split, size-end-found}
+use Rattle.automaton.proofs.table.Judging.{sized-refused, sized-passes}
+use Rattle.automaton.proofs.table.judge.Statement.{statement}
 
 returns : tie.Need-returns
 unfolding placeOf judgementOf sized mapRead _>>=_

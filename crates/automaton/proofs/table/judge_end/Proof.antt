@@ -1,11 +1,11 @@
 -- `automaton::table::judge_end` meets its contract: nothing is left, no record is due, or one stands where none may.
 use borrow.Author.Needs.{needs}
 use mathlib.Core.Path.{sym}
-use Rattle.automaton.proofs.Answered.{told}
-use Rattle.automaton.proofs.Judging.{end-empty, end-refused, end-more}
-use Rattle.automaton.proofs.table.judge_end.Statement.{statement}
-use Rattle.automaton.proofs.table.judge_end.Tie as tie
+use Rattle.records.proofs.Answers.{told}
 use Rattle.automaton.specs.Inner.{placeOf, verdictOf}
+use Rattle.automaton.proofs.table.judge_end.Tie as tie
+use Rattle.automaton.proofs.table.Judging.{end-empty, end-refused, end-more}
+use Rattle.automaton.proofs.table.judge_end.Statement.{statement}
 
 returns : tie.Need-returns
 unfolding verdictOf

@@ -2,15 +2,15 @@
 use borrow.Author.Needs.{needs}
 use mathlib.Core.Path.{_≡_, _∙_, sym}
 use denote.Ref.{now}
-use Rattle.automaton.specs.Read.{found, _>>=_}
+use Rattle.lists.proofs.Arrays.{part-to-end}
+use Rattle.records.specs.Read.{found, _>>=_}
+use Rattle.records.proofs.Answers.{told}
+use Rattle.records.proofs.Opening.{opened-within}
 use Rattle.automaton.specs.Inner.{passing, placeOf, verdictOf, finalsEnd}
-use Rattle.automaton.proofs.Scanning.{part-to-end}
-use Rattle.automaton.proofs.Answered.{told}
-use Rattle.automaton.proofs.Opening.{opened-within}
-use Rattle.automaton.proofs.Inversion.{finals-split, finals-end-found}
-use Rattle.automaton.proofs.Judging.{passing-map}
-use Rattle.automaton.proofs.table.judge_finals.Statement.{statement}
 use Rattle.automaton.proofs.table.judge_finals.Tie as tie
+use Rattle.automaton.proofs.Inversion.{finals-split, finals-end-found}
+use Rattle.automaton.proofs.table.Judging.{passing-map}
+use Rattle.automaton.proofs.table.judge_finals.Statement.{statement}
 
 returns : tie.Need-returns
 unfolding placeOf verdictOf passing _>>=_

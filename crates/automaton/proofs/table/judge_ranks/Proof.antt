@@ -2,14 +2,14 @@
 use borrow.Author.Needs.{needs}
 use mathlib.Core.Path.{_≡_}
 use denote.Ref.{now}
-use Rattle.automaton.specs.Read.{found, _>>=_}
+use Rattle.lists.proofs.Arrays.{part-to-end}
+use Rattle.records.specs.Read.{found, _>>=_}
+use Rattle.records.proofs.Answers.{told}
+use Rattle.records.proofs.Opening.{opened-within}
 use Rattle.automaton.specs.Inner.{passing, placeOf, verdictOf, ranksEnd}
-use Rattle.automaton.proofs.Scanning.{part-to-end}
-use Rattle.automaton.proofs.Answered.{told}
-use Rattle.automaton.proofs.Opening.{opened-within}
+use Rattle.automaton.proofs.table.judge_ranks.Tie as tie
 use Rattle.automaton.proofs.Inversion.{ranks-split, ranks-end-found}
 use Rattle.automaton.proofs.table.judge_ranks.Statement.{statement}
-use Rattle.automaton.proofs.table.judge_ranks.Tie as tie
 
 returns : tie.Need-returns
 unfolding placeOf verdictOf passing _>>=_

@@ -6,14 +6,14 @@ use Prim.Native.Nat.{ℕ}
 use mathlib.Core.Path.{_≡_, sym, _∙_}
 use lib.ListN.{drop}
 use lib.Dec.{ltb}
-use Rattle.automaton.specs.Lists.{all}
 use denote.Ref.{now}
-use Rattle.automaton.specs.Bytes.{numbers}
+use Rattle.lists.specs.Lists.{all}
+use Rattle.lists.proofs.Arrays.{part-to-end}
+use Rattle.records.specs.Bytes.{numbers}
 use Rattle.automaton.specs.Inner.{verdictOf}
-use Rattle.automaton.proofs.Scanning.{part-to-end}
-use Rattle.automaton.proofs.Judging.{rule-short, rule-symbol, rule-arity, rule-states, rule-passes}
-use Rattle.automaton.proofs.table.judge_rule.Statement.{statement}
 use Rattle.automaton.proofs.table.judge_rule.Tie as tie
+use Rattle.automaton.proofs.table.Judging.{rule-short, rule-symbol, rule-arity, rule-states, rule-passes}
+use Rattle.automaton.proofs.table.judge_rule.Statement.{statement}
 
 returns : tie.Need-returns
 unfolding verdictOf

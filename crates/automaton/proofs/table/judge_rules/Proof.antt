@@ -3,14 +3,14 @@ use borrow.Author.Needs.{needs}
 use native.Mathlib.Omega.{arith}
 use mathlib.Core.Path.{_≡_, sym, ap, _∙_}
 use denote.Ref.{now}
-use Rattle.automaton.specs.Read.{found}
+use Rattle.lists.proofs.Arrays.{part-to-end}
+use Rattle.records.specs.Read.{found}
+use Rattle.records.proofs.Answers.{told}
 use Rattle.automaton.specs.Table.{judgeRules}
 use Rattle.automaton.specs.Inner.{passing, placeOf, verdictOf}
-use Rattle.automaton.proofs.Scanning.{part-to-end}
-use Rattle.automaton.proofs.Answered.{told}
-use Rattle.automaton.proofs.Judging.{passing-map, nextRule, next-found, rules-refused, rules-next, rules-end}
-use Rattle.automaton.proofs.table.judge_rules.Statement.{statement}
 use Rattle.automaton.proofs.table.judge_rules.Tie as tie
+use Rattle.automaton.proofs.table.Judging.{passing-map, nextRule, next-found, rules-refused, rules-next, rules-end}
+use Rattle.automaton.proofs.table.judge_rules.Statement.{statement}
 
 abbrev Inv-loop : tie.InvT-loop
 Inv-loop t n ranks k rest₀ left₀ rest left = passing (judgeRules n ranks k t) ≡ passing (judgeRules n ranks left rest)

@@ -2,14 +2,14 @@
 use borrow.Author.Needs.{needs}
 use mathlib.Core.Path.{_≡_, sym}
 use denote.Ref.{now}
-use Rattle.automaton.specs.Record.{bodyOf}
-use Rattle.automaton.specs.Read.{_>>=_}
+use Rattle.records.specs.Record.{bodyOf}
+use Rattle.records.specs.Read.{_>>=_}
+use Rattle.records.proofs.Answers.{told}
 use Rattle.automaton.specs.Table.{judgeRule}
 use Rattle.automaton.specs.Inner.{passing, placeOf, verdictOf}
-use Rattle.automaton.proofs.Answered.{told}
-use Rattle.automaton.proofs.Judging.{next-refused, next-passes}
-use Rattle.automaton.proofs.table.next_rule.Statement.{statement}
 use Rattle.automaton.proofs.table.next_rule.Tie as tie
+use Rattle.automaton.proofs.table.Judging.{next-refused, next-passes}
+use Rattle.automaton.proofs.table.next_rule.Statement.{statement}
 
 returns : tie.Need-returns
 unfolding placeOf _>>=_

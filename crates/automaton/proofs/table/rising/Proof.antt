@@ -5,11 +5,11 @@ use Prim.Native.Nat.{_-_, _≤_}
 use mathlib.Core.Path.{_≡_, sym, _∙_}
 use denote.Ref.{now}
 use lib.ListN.{length, drop}
-use Rattle.automaton.specs.Lists.{rising, risingFrom}
-use Rattle.automaton.specs.Bytes.{numbers}
-use Rattle.automaton.proofs.Scanning.{rising-start, rising-few, rising-stop, rising-go-on, rising-end}
-use Rattle.automaton.proofs.table.rising.Statement.{statement}
+use Rattle.lists.specs.Lists.{rising, risingFrom}
+use Rattle.records.specs.Bytes.{numbers}
 use Rattle.automaton.proofs.table.rising.Tie as tie
+use Rattle.automaton.proofs.table.Scanning.{rising-start, rising-few, rising-stop, rising-go-on, rising-end}
+use Rattle.automaton.proofs.table.rising.Statement.{statement}
 
 abbrev Inv-loop : tie.InvT-loop
 Inv-loop b last₀ i₀ last i = (i ≤ length b) × (rising (numbers b) ≡ risingFrom last (numbers (drop i b)))

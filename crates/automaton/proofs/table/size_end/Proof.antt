@@ -3,12 +3,12 @@ use borrow.Author.Needs.{needs}
 use borrow.Author.Tests.{le-leb, lt-leb, eq-eqb, ne-eqb}
 use mathlib.Core.Path.{_≡_}
 use denote.Ref.{now}
-use Rattle.automaton.specs.Read.{found, _>>=_, _>>_, check}
+use Rattle.records.specs.Read.{found, _>>=_, _>>_, check}
+use Rattle.records.proofs.Answers.{told}
 use Rattle.automaton.specs.Table.{due}
 use Rattle.automaton.specs.Inner.{placeOf, sizeEnd, sizeIn}
-use Rattle.automaton.proofs.Answered.{told}
-use Rattle.automaton.proofs.table.size_end.Statement.{statement}
 use Rattle.automaton.proofs.table.size_end.Tie as tie
+use Rattle.automaton.proofs.table.size_end.Statement.{statement}
 
 returns : tie.Need-returns
 unfolding placeOf sizeEnd _>>=_

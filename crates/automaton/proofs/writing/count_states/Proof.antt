@@ -5,11 +5,11 @@ use mathlib.Core.Logic.{⊎-elim}
 use native.Mathlib.Omega.{arith}
 use lib.ListN.{length}
 use borrow.Author.Needs.{needs}
-use Rattle.automaton.specs.Lists.{from, keep}
-use Rattle.automaton.specs.StateSet.{member}
-use Rattle.automaton.proofs.WrittenBytes.{length-step, keep-in, keep-out, kept}
-use Rattle.automaton.proofs.writing.count_states.Statement.{statement}
+use Rattle.lists.specs.Lists.{from, keep}
+use Rattle.lists.proofs.Overwriting.{length-step, single-kept, single-dropped, kept}
+use Rattle.sets.specs.Set.{member}
 use Rattle.automaton.proofs.writing.count_states.Tie as tie
+use Rattle.automaton.proofs.writing.count_states.Statement.{statement}
 
 abbrev Inv-loop : tie.InvT-loop
 Inv-loop set n count₀ q₀ count q =
@@ -28,8 +28,8 @@ loop-again c =
     let q = c .before .before .before .loop .q in
     let more = length-step (kept test) q in
     ⊎-elim
-    (λ w. let one = ap length (keep-in test q (sym (c .before .has .ensures) ∙ w .0 .taken)) in omega arith)
-    (λ w. let none = ap length (keep-out test q (sym (c .before .has .ensures) ∙ w .0 .left)) in omega arith)
+    (λ w. let one = ap length (single-kept test q (sym (c .before .has .ensures) ∙ w .0 .taken)) in omega arith)
+    (λ w. let none = ap length (single-dropped test q (sym (c .before .has .ensures) ∙ w .0 .left)) in omega arith)
     (c .if1 .came)
 
 returns : tie.Need-returns Inv-loop μ-loop

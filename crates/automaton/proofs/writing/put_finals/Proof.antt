@@ -1,11 +1,12 @@
 -- A head and then the states.
 use native.Mathlib.Omega.{arith}
 use borrow.Author.Needs.{needs}
-use Rattle.automaton.specs.StateSet.{member}
-use Rattle.automaton.proofs.Fields.{length-fields}
-use Rattle.automaton.proofs.WrittenBytes.{over-record, kept-few}
-use Rattle.automaton.proofs.writing.put_finals.Statement.{statement}
+use Rattle.lists.proofs.Overwriting.{kept-few}
+use Rattle.sets.specs.Set.{member}
+use Rattle.records.proofs.Fields.{length-fields}
+use Rattle.records.proofs.Buffers.{over-record}
 use Rattle.automaton.proofs.writing.put_finals.Tie as tie
+use Rattle.automaton.proofs.writing.put_finals.Statement.{statement}
 
 put-head-requires : tie.Need-put-head-requires
 put-head-requires c κs =

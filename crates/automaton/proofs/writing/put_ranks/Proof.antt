@@ -3,9 +3,9 @@ use mathlib.Core.Path.{sym}
 use native.Mathlib.Omega.{arith}
 use lib.Seq.{length-take-le}
 use borrow.Author.Needs.{needs}
-use Rattle.automaton.proofs.WrittenBytes.{over-record}
-use Rattle.automaton.proofs.writing.put_ranks.Statement.{statement}
+use Rattle.records.proofs.Buffers.{over-record}
 use Rattle.automaton.proofs.writing.put_ranks.Tie as tie
+use Rattle.automaton.proofs.writing.put_ranks.Statement.{statement}
 
 returns : tie.Need-returns
 returns c =

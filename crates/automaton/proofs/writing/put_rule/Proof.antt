@@ -5,10 +5,11 @@ use native.Mathlib.Omega.{arith}
 use lib.ListN.{length}
 use borrow.Author.Needs.{needs}
 use Rattle.automaton.specs.Row.{ruleAt}
-use Rattle.automaton.proofs.WrittenBytes.{over-rule, length-rule}
-use Rattle.automaton.proofs.Rowing.{children-few}
-use Rattle.automaton.proofs.writing.put_rule.Statement.{statement}
 use Rattle.automaton.proofs.writing.put_rule.Tie as tie
+use Rattle.automaton.proofs.writing.Parts.{over-rule}
+use Rattle.automaton.proofs.Encoding.{length-rule}
+use Rattle.automaton.proofs.Rows.{children-few}
+use Rattle.automaton.proofs.writing.put_rule.Statement.{statement}
 
 abbrev start : tie.After-children-of → tie.Start
 start c = c .before .before .before

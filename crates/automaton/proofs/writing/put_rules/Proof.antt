@@ -4,13 +4,14 @@ use mathlib.Core.Path.{_≡_}
 use native.Mathlib.Omega.{arith}
 use lib.ListN.{length}
 use borrow.Author.Needs.{needs}
-use Rattle.automaton.specs.Lists.{from}
+use Rattle.lists.specs.Lists.{from}
+use Rattle.lists.specs.Over.{over}
+use Rattle.lists.proofs.Overwriting.{over-nil, length-step, room-for-step, over-step}
 use Rattle.automaton.specs.Table.{encodeRules}
 use Rattle.automaton.specs.Row.{rulesIn}
-use Rattle.automaton.specs.Inner.{over}
-use Rattle.automaton.proofs.WrittenBytes.{over-nil, length-step, room-for-step, over-step, rules}
-use Rattle.automaton.proofs.writing.put_rules.Statement.{statement}
 use Rattle.automaton.proofs.writing.put_rules.Tie as tie
+use Rattle.automaton.proofs.writing.Parts.{rules}
+use Rattle.automaton.proofs.writing.put_rules.Statement.{statement}
 
 abbrev Inv-loop : tie.InvT-loop
 Inv-loop out₀ at rows k next₀ i₀ out next i =

@@ -1,11 +1,11 @@
 -- A head and three fields, one after the other.
 use native.Mathlib.Omega.{arith}
 use borrow.Author.Needs.{needs}
-use Rattle.automaton.specs.Bytes.{bytes2, bytes4, fields}
-use Rattle.automaton.specs.Record.{encodeRecord}
-use Rattle.automaton.proofs.WrittenBytes.{over-then}
-use Rattle.automaton.proofs.writing.put_size.Statement.{statement}
+use Rattle.lists.proofs.Overwriting.{over-then}
+use Rattle.records.specs.Bytes.{bytes2, bytes4, fields}
+use Rattle.records.specs.Record.{encodeRecord}
 use Rattle.automaton.proofs.writing.put_size.Tie as tie
+use Rattle.automaton.proofs.writing.put_size.Statement.{statement}
 
 returns : tie.Need-returns
 unfolding bytes2 bytes4 fields encodeRecord

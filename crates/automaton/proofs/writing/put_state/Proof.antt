@@ -4,24 +4,24 @@ use mathlib.Core.List.{[], _∷_}
 use native.Mathlib.Omega.{arith}
 use borrow.Author.Needs.{needs}
 use borrow.Author.Tests.{not-true, not-false}
-use Rattle.automaton.specs.Lists.{keep}
-use Rattle.automaton.specs.Bytes.{bytes2, fields}
-use Rattle.automaton.specs.StateSet.{member}
-use Rattle.automaton.proofs.WrittenBytes.{over-nil, keep-in, keep-out}
-use Rattle.automaton.proofs.writing.put_state.Statement.{statement}
+use Rattle.lists.specs.Lists.{keep}
+use Rattle.lists.proofs.Overwriting.{over-nil, single-kept, single-dropped}
+use Rattle.sets.specs.Set.{member}
+use Rattle.records.specs.Bytes.{bytes2, fields}
 use Rattle.automaton.proofs.writing.put_state.Tie as tie
+use Rattle.automaton.proofs.writing.put_state.Statement.{statement}
 
 returns : tie.Need-returns
 unfolding fields
 returns c =
-    rw (keep-out _ _ (sym (c .before .has .ensures) ∙ not-true _ (c .if1 .taken)))
+    rw (single-dropped _ _ (sym (c .before .has .ensures) ∙ not-true _ (c .if1 .taken)))
     (omega arith, over-nil _ _)
 
 abbrev start : tie.Else1 → tie.Start
 start c = c .before .before .before
 
 in-set : (c : tie.Else1) → keep (member (start c .args .set .words)) (start c .args .q ∷ []) ≡ start c .args .q ∷ []
-in-set c = keep-in _ _ (sym (c .before .has .ensures) ∙ not-false _ (c .if1 .left))
+in-set c = single-kept _ _ (sym (c .before .has .ensures) ∙ not-false _ (c .if1 .left))
 
 put2-requires : tie.Need-put2-requires
 unfolding fields bytes2

@@ -4,13 +4,14 @@ use mathlib.Core.Path.{_≡_}
 use native.Mathlib.Omega.{arith}
 use lib.ListN.{length}
 use borrow.Author.Needs.{needs}
-use Rattle.automaton.specs.Lists.{from, keep}
-use Rattle.automaton.specs.Bytes.{fields}
-use Rattle.automaton.specs.StateSet.{member}
-use Rattle.automaton.specs.Inner.{over}
-use Rattle.automaton.proofs.WrittenBytes.{over-nil, length-step, room-for-step, over-step, states}
-use Rattle.automaton.proofs.writing.put_states.Statement.{statement}
+use Rattle.lists.specs.Lists.{from, keep}
+use Rattle.lists.specs.Over.{over}
+use Rattle.lists.proofs.Overwriting.{over-nil, length-step, room-for-step, over-step}
+use Rattle.sets.specs.Set.{member}
+use Rattle.records.specs.Bytes.{fields}
 use Rattle.automaton.proofs.writing.put_states.Tie as tie
+use Rattle.automaton.proofs.writing.Parts.{states}
+use Rattle.automaton.proofs.writing.put_states.Statement.{statement}
 
 abbrev Inv-loop : tie.InvT-loop
 Inv-loop out₀ at set n next₀ q₀ out next q =

@@ -4,13 +4,15 @@ use mathlib.Core.Path.{_≡_, ap}
 use native.Mathlib.Omega.{arith}
 use lib.ListN.{length}
 use borrow.Author.Needs.{needs}
-use Rattle.automaton.specs.Lists.{from}
+use Rattle.lists.specs.Lists.{from}
+use Rattle.lists.proofs.Overwriting.{length-step}
 use Rattle.automaton.specs.Table.{encodeRules}
 use Rattle.automaton.specs.Row.{ruleAt, rulesIn, Row}
-use Rattle.automaton.proofs.WrittenBytes.{length-step, rules, length-rule}
-use Rattle.automaton.proofs.Rowing.{children-few}
-use Rattle.automaton.proofs.writing.rules_length.Statement.{statement}
 use Rattle.automaton.proofs.writing.rules_length.Tie as tie
+use Rattle.automaton.proofs.writing.Parts.{rules}
+use Rattle.automaton.proofs.Encoding.{length-rule}
+use Rattle.automaton.proofs.Rows.{children-few}
+use Rattle.automaton.proofs.writing.rules_length.Statement.{statement}
 
 abbrev Inv-loop : tie.InvT-loop
 Inv-loop rows k total₀ i₀ total i = (i ≤ k) × (total ≤ 26 * i) × (total ≡ length (rules rows .upto i))

@@ -5,15 +5,17 @@ use mathlib.Core.List.{List}
 use native.Mathlib.Omega.{arith}
 use lib.ListN.{length}
 use borrow.Author.Needs.{needs}
+use Rattle.lists.proofs.Overwriting.{kept-few}
+use Rattle.sets.specs.Set.{member}
+use Rattle.records.specs.Read.{found}
+use Rattle.records.proofs.Buffers.{room-enough, room-short}
 use Rattle.automaton.specs.Answers.{writingOf}
-use Rattle.automaton.specs.StateSet.{member}
 use Rattle.automaton.specs.Table.{encode}
-use Rattle.automaton.specs.Read.{found}
 use Rattle.automaton.specs.Decoded.{automatonIn}
-use Rattle.automaton.proofs.WrittenBytes.{kept-few, few-states, few-symbols}
-use Rattle.automaton.proofs.WrittenBytes.{room-enough, room-short, length-encode, over-records}
-use Rattle.automaton.proofs.writing.write.Statement.{statement}
 use Rattle.automaton.proofs.writing.write.Tie as tie
+use Rattle.automaton.proofs.Held.{few-states, few-symbols}
+use Rattle.automaton.proofs.writing.Parts.{length-encode, over-records}
+use Rattle.automaton.proofs.writing.write.Statement.{statement}
 
 states : (c : tie.Start) → c .args .size .states ≤ 256
 states c = few-states _ _ _ _ (c .pre .1 .1)

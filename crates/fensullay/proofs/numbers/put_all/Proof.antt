@@ -6,11 +6,11 @@ use native.Mathlib.Omega.{arith}
 use lib.ListN.{length, length-set, take}
 use lib.Seq.{take-length}
 use borrow.Author.Needs.{needs}
-use Rattle.automaton.specs.Inner.{over}
-use Rattle.automaton.proofs.WrittenBytes.{over-nil, over-behind}
+use Rattle.lists.specs.Over.{over}
+use Rattle.lists.proofs.Overwriting.{over-nil, over-behind}
+use Rattle.fensullay.proofs.numbers.put_all.Tie as tie
 use Rattle.fensullay.proofs.Answering.{copied-next}
 use Rattle.fensullay.proofs.numbers.put_all.Statement.{statement}
-use Rattle.fensullay.proofs.numbers.put_all.Tie as tie
 
 abbrev Inv-loop : tie.InvT-loop
 Inv-loop numbers₀ values j₀ numbers j =

@@ -5,11 +5,11 @@ use mathlib.Core.List.{[]}
 use native.Mathlib.Omega.{arith}
 use lib.ListN.{length-set}
 use lib.Seq.{sets-eq}
-use Rattle.automaton.specs.Inner.{over}
-use Rattle.automaton.proofs.WrittenBytes.{over-behind}
+use Rattle.lists.specs.Over.{over}
+use Rattle.lists.proofs.Overwriting.{over-behind}
 use Rattle.fensullay.specs.Exports.{countsNumbers}
-use Rattle.fensullay.proofs.numbers.put_counts.Statement.{statement}
 use Rattle.fensullay.proofs.numbers.put_counts.Tie as tie
+use Rattle.fensullay.proofs.numbers.put_counts.Statement.{statement}
 
 returns : tie.Need-returns
 unfolding over countsNumbers

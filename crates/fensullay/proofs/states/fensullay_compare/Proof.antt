@@ -2,10 +2,10 @@
 use borrow.Author.Needs.{needs}
 use native.Mathlib.Omega.{arith}
 use Rattle.fensullay.specs.Exports.{compareCode}
+use Rattle.fensullay.proofs.states.fensullay_compare.Tie as tie
 use Rattle.fensullay.proofs.Answering.{too-few, names-none}
 use Rattle.fensullay.proofs.Comparing.{answered-refused, answered-yes, answered-rule}
 use Rattle.fensullay.proofs.states.fensullay_compare.Statement.{statement}
-use Rattle.fensullay.proofs.states.fensullay_compare.Tie as tie
 
 returns : tie.Need-returns
 unfolding compareCode

@@ -3,9 +3,9 @@ use borrow.Author.Needs.{needs}
 use mathlib.Core.Path.{sym, ap, _∙_}
 use Rattle.simulation.specs.Query.{relatedOf}
 use Rattle.fensullay.specs.Exports.{relationNumbers, relateCode, relateNumbers, relateOut}
+use Rattle.fensullay.proofs.states.fensullay_relate.Tie as tie
 use Rattle.fensullay.proofs.Answering.{enough-room, too-few, refused-in, found-in}
 use Rattle.fensullay.proofs.states.fensullay_relate.Statement.{statement}
-use Rattle.fensullay.proofs.states.fensullay_relate.Tie as tie
 
 returns : tie.Need-returns
 unfolding relateCode relateNumbers relateOut

@@ -3,9 +3,9 @@ use borrow.Author.Needs.{needs}
 use mathlib.Core.Path.{sym, ap, _∙_}
 use Rattle.automaton.specs.Answers.{judgementOf}
 use Rattle.fensullay.specs.Exports.{sizeNumbers, judgeCode, judgeNumbers}
+use Rattle.fensullay.proofs.table.fensullay_judge.Tie as tie
 use Rattle.fensullay.proofs.Answering.{too-few, refused-in, found-in}
 use Rattle.fensullay.proofs.table.fensullay_judge.Statement.{statement}
-use Rattle.fensullay.proofs.table.fensullay_judge.Tie as tie
 
 returns : tie.Need-returns
 unfolding judgeCode judgeNumbers

@@ -3,9 +3,9 @@ use borrow.Author.Needs.{needs}
 use mathlib.Core.Path.{sym, ap, _∙_}
 use Rattle.reduction.specs.Reduce.{reductionOf}
 use Rattle.fensullay.specs.Exports.{reductionNumbers, reduceCode, reduceNumbers, reduceOut}
+use Rattle.fensullay.proofs.table.fensullay_reduce.Tie as tie
 use Rattle.fensullay.proofs.Answering.{enough-room, too-few, refused-in, found-in}
 use Rattle.fensullay.proofs.table.fensullay_reduce.Statement.{statement}
-use Rattle.fensullay.proofs.table.fensullay_reduce.Tie as tie
 
 returns : tie.Need-returns
 unfolding reduceCode reduceNumbers reduceOut

@@ -4,13 +4,13 @@ use native.Mathlib.Omega.{arith}
 use denote.Ref.{now}
 use mathlib.Core.Path.{sym, ap, _∙_}
 use lib.ListN.{length, length-append, replicate}
-use Rattle.reduction.specs.Report.{report}
-use Rattle.reduction.proofs.Reporting.{report-short}
+use Rattle.reporting.specs.Report.{report}
+use Rattle.reporting.proofs.Reporting.{report-short}
 use Rattle.fensullay.specs.Exports.{reportCode, reportNumbers, reportOut}
+use Rattle.fensullay.proofs.table.fensullay_report.Tie as tie
 use Rattle.fensullay.proofs.Answering.{too-few}
 use Rattle.fensullay.proofs.Reported.{placed-length, reported-short, reported-in}
 use Rattle.fensullay.proofs.table.fensullay_report.Statement.{statement}
-use Rattle.fensullay.proofs.table.fensullay_report.Tie as tie
 
 returns : tie.Need-returns
 unfolding reportCode reportNumbers reportOut

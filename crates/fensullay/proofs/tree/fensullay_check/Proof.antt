@@ -1,12 +1,12 @@
 -- `fensullay::tree::fensullay_check` meets its contract.
 use borrow.Author.Needs.{needs}
 use mathlib.Core.Path.{sym, ap, _∙_}
-use Rattle.simulation.specs.Check.{acceptanceOf}
-use Rattle.simulation.specs.declared.checking.Answer.{Answer}
+use Rattle.trees.specs.Answers.{acceptanceOf}
+use Rattle.trees.specs.declared.evaluation.Answer.{Answer}
 use Rattle.fensullay.specs.Exports.{yesNoCodeOf, countsIn, checkCode, checkCounts}
+use Rattle.fensullay.proofs.tree.fensullay_check.Tie as tie
 use Rattle.fensullay.proofs.Answering.{too-few, checked-in}
 use Rattle.fensullay.proofs.tree.fensullay_check.Statement.{statement}
-use Rattle.fensullay.proofs.tree.fensullay_check.Tie as tie
 
 returns : tie.Need-returns
 unfolding checkCode checkCounts

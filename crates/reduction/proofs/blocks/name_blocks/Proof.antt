@@ -4,11 +4,11 @@ use mathlib.Core.Path.{_≡_}
 use native.Mathlib.Omega.{arith}
 use lib.ListN.{length, length-set, getD}
 use borrow.Author.Needs.{needs}
-use Rattle.simulation.proofs.Rows.{filled-more}
+use Rattle.lists.proofs.Arrays.{filled-more}
 use Rattle.reduction.specs.Inner.{nameIn}
-use Rattle.reduction.proofs.Naming.{Represents}
-use Rattle.reduction.proofs.blocks.name_blocks.Statement.{statement}
 use Rattle.reduction.proofs.blocks.name_blocks.Tie as tie
+use Rattle.reduction.proofs.blocks.Naming.{Represents}
+use Rattle.reduction.proofs.blocks.name_blocks.Statement.{statement}
 
 abbrev Inv-loop : tie.InvT-loop
 Inv-loop words n names₀ q₀ names q =

@@ -5,15 +5,14 @@ use mathlib.Core.Logic.{⊎-elim}
 use native.Mathlib.Omega.{arith}
 use lib.ListN.{length, length-set, getD}
 use borrow.Author.Needs.{needs}
-use Rattle.automaton.specs.Lists.{from, keep}
-use Rattle.automaton.specs.StateSet.{member}
-use Rattle.automaton.proofs.WrittenBytes.{kept-few}
-use Rattle.simulation.specs.Words.{statesIn}
-use Rattle.simulation.proofs.Rows.{filled-more}
+use Rattle.lists.specs.Lists.{from, keep}
+use Rattle.lists.proofs.Overwriting.{kept-few}
+use Rattle.lists.proofs.Arrays.{filled-more}
+use Rattle.sets.specs.Set.{member, statesIn}
 use Rattle.reduction.specs.Inner.{nameIn}
-use Rattle.reduction.proofs.Naming.{one-more, no-more, position-kept}
-use Rattle.reduction.proofs.blocks.number_states.Statement.{statement}
 use Rattle.reduction.proofs.blocks.number_states.Tie as tie
+use Rattle.reduction.proofs.blocks.Naming.{one-more, no-more, position-kept}
+use Rattle.reduction.proofs.blocks.number_states.Statement.{statement}
 
 abbrev Inv-loop : tie.InvT-loop
 Inv-loop set n names₀ count₀ q₀ names count q =

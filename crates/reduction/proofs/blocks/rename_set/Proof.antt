@@ -6,16 +6,15 @@ use mathlib.Core.Logic.{⊎-elim}
 use native.Mathlib.Omega.{arith}
 use lib.Dec.{eqb}
 use borrow.Author.Needs.{needs}
-use Rattle.automaton.specs.Lists.{from, keep}
-use Rattle.automaton.specs.StateSet.{member}
-use Rattle.automaton.proofs.StateSets.{member-empty}
-use Rattle.simulation.specs.Tree.{any}
-use Rattle.simulation.specs.Inner.{Has}
-use Rattle.simulation.proofs.Search.{and-true-in, and-false-left, and-false-right}
+use Rattle.lists.specs.Lists.{from, keep, any}
+use Rattle.lists.proofs.Booleans.{and-true-in, and-false-left, and-false-right}
+use Rattle.sets.specs.Set.{member}
+use Rattle.sets.specs.Inner.{Has}
+use Rattle.sets.proofs.StateSets.{member-empty}
 use Rattle.reduction.specs.Inner.{nameIn}
-use Rattle.reduction.proofs.Renaming.{name-in, name-out}
-use Rattle.reduction.proofs.blocks.rename_set.Statement.{statement}
 use Rattle.reduction.proofs.blocks.rename_set.Tie as tie
+use Rattle.reduction.proofs.blocks.Renaming.{name-in, name-out}
+use Rattle.reduction.proofs.blocks.rename_set.Statement.{statement}
 
 abbrev Inv-loop : tie.InvT-loop
 Inv-loop set within n names renamed₀ q₀ renamed q =

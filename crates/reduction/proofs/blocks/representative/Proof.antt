@@ -5,14 +5,14 @@ use mathlib.Core.Logic.{⊎-elim}
 use mathlib.Core.Bool.{false}
 use native.Mathlib.Omega.{arith}
 use borrow.Author.Needs.{needs}
-use Rattle.automaton.specs.Lists.{from}
-use Rattle.simulation.specs.Simulation.{related}
-use Rattle.simulation.specs.Words.{relationIn}
-use Rattle.simulation.proofs.Search.{and-true-in, and-false-left, and-false-right}
-use Rattle.reduction.specs.Steps.{equivalent, firstOf}
-use Rattle.reduction.proofs.Naming.{first-here, first-later}
-use Rattle.reduction.proofs.blocks.representative.Statement.{statement}
+use Rattle.lists.specs.Lists.{from}
+use Rattle.lists.proofs.Booleans.{and-true-in, and-false-left, and-false-right}
+use Rattle.refinement.specs.Simulation.{related}
+use Rattle.refinement.specs.Words.{relationIn}
+use Rattle.stages.specs.Steps.{equivalent, firstOf}
 use Rattle.reduction.proofs.blocks.representative.Tie as tie
+use Rattle.reduction.proofs.blocks.Naming.{first-here, first-later}
+use Rattle.reduction.proofs.blocks.representative.Statement.{statement}
 
 abbrev Inv-loop : tie.InvT-loop
 Inv-loop words q r₀ r =

@@ -5,9 +5,9 @@ use Prim.Native.Nat.{_-_, _≤_}
 use mathlib.Core.Path.{_≡_}
 use Rattle.automaton.specs.Row.{rulesIn}
 use Rattle.reduction.specs.Inner.{ChildrenAdded}
-use Rattle.reduction.proofs.Passes.{children-none, children-next}
-use Rattle.reduction.proofs.growth.add_children.Statement.{statement}
 use Rattle.reduction.proofs.growth.add_children.Tie as tie
+use Rattle.reduction.proofs.growth.Growing.{children-none, children-next}
+use Rattle.reduction.proofs.growth.add_children.Statement.{statement}
 
 abbrev Inv-loop : tie.InvT-loop
 Inv-loop rows k grown₀ i₀ grown i = (i ≤ k) × ChildrenAdded (rulesIn rows i) (grown₀ .words) (grown .words)

@@ -5,9 +5,9 @@ use Prim.Native.Nat.{_-_, _≤_}
 use mathlib.Core.Path.{_≡_}
 use Rattle.automaton.specs.Row.{rulesIn}
 use Rattle.reduction.specs.Inner.{TargetsAdded}
-use Rattle.reduction.proofs.Passes.{targets-none, targets-next}
-use Rattle.reduction.proofs.growth.add_targets.Statement.{statement}
 use Rattle.reduction.proofs.growth.add_targets.Tie as tie
+use Rattle.reduction.proofs.growth.Growing.{targets-none, targets-next}
+use Rattle.reduction.proofs.growth.add_targets.Statement.{statement}
 
 abbrev Inv-loop : tie.InvT-loop
 Inv-loop rows k grown₀ i₀ grown i = (i ≤ k) × TargetsAdded (rulesIn rows i) (grown₀ .words) (grown .words)

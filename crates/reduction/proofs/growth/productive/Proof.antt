@@ -4,15 +4,15 @@ use Prim.Native.Nat.{ℕ, _-_, _≤_, _<_}
 use mathlib.Core.Path.{_≡_, sym, _∙_}
 use mathlib.Core.List.{List, List·Memᴰ}
 use lib.ListN.{length}
-use Rattle.automaton.specs.Lists.{from}
+use Rattle.lists.specs.Lists.{from}
+use Rattle.sets.proofs.StateSets.{same-set-out}
 use Rattle.automaton.specs.Automaton.{Rule}
 use Rattle.automaton.specs.Row.{ruleAt, rulesIn}
-use Rattle.automaton.proofs.Rowing.{rules-each}
-use Rattle.automaton.proofs.StateSets.{same-set-out}
-use Rattle.reduction.specs.Steps.{buildable}
-use Rattle.reduction.proofs.Passes.{Between, none-built, built-next, built-settled, built-ended}
-use Rattle.reduction.proofs.growth.productive.Statement.{statement}
+use Rattle.automaton.proofs.Rows.{rules-each}
+use Rattle.stages.specs.Steps.{buildable}
 use Rattle.reduction.proofs.growth.productive.Tie as tie
+use Rattle.reduction.proofs.growth.Growing.{Between, none-built, built-next, built-settled, built-ended}
+use Rattle.reduction.proofs.growth.productive.Statement.{statement}
 
 abbrev TargetsBelow : List ℕ → ℕ → ℕ → Type 0
 TargetsBelow rows k n = (i : ℕ) → i < k → ruleAt rows i .target < n

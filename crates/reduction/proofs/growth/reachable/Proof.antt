@@ -3,14 +3,15 @@ use borrow.Author.Needs.{needs}
 use Prim.Native.Nat.{_-_, _≤_}
 use mathlib.Core.Path.{_≡_, sym, _∙_}
 use lib.ListN.{length}
+use Rattle.lists.specs.Lists.{among}
+use Rattle.sets.specs.Inner.{Has}
+use Rattle.sets.proofs.StateSets.{same-set-out}
 use Rattle.automaton.specs.Row.{rulesIn}
-use Rattle.automaton.proofs.StateSets.{same-set-out}
-use Rattle.simulation.specs.Inner.{Has}
-use Rattle.reduction.specs.Steps.{Stage, among}
-use Rattle.reduction.specs.Inner.{Sound}
-use Rattle.reduction.proofs.Passes.{Collected, finals-collected, needed-next, needed-settled, needed-ended}
-use Rattle.reduction.proofs.growth.reachable.Statement.{statement}
+use Rattle.stages.specs.Steps.{Stage}
+use Rattle.stages.specs.Inner.{Sound}
 use Rattle.reduction.proofs.growth.reachable.Tie as tie
+use Rattle.reduction.proofs.growth.Growing.{Collected, finals-collected, needed-next, needed-settled, needed-ended}
+use Rattle.reduction.proofs.growth.reachable.Statement.{statement}
 
 abbrev Inv-loop : tie.InvT-loop
 Inv-loop rows k set₀ times₀ set times =

@@ -2,11 +2,11 @@
 use borrow.Author.Needs.{needs}
 use borrow.Author.Tests.{not-true, not-false}
 use mathlib.Core.Path.{_≡_, sym, _∙_}
-use Rattle.automaton.specs.StateSet.{member}
+use Rattle.sets.specs.Set.{member}
 use Rattle.automaton.specs.Row.{ruleAt}
-use Rattle.reduction.proofs.Passes.{children-out}
-use Rattle.reduction.proofs.growth.with_children.Statement.{statement}
 use Rattle.reduction.proofs.growth.with_children.Tie as tie
+use Rattle.reduction.proofs.growth.Growing.{children-out}
+use Rattle.reduction.proofs.growth.with_children.Statement.{statement}
 
 tested : (c : tie.After-has)
     → let a = c .before .before .before .args in

@@ -4,9 +4,9 @@ use mathlib.Core.Path.{refl}
 use native.Mathlib.Omega.{arith}
 use Prim.Native.Nat.{_-_, _≤_}
 use lib.ListN.{length}
-use Rattle.reduction.proofs.Passes.{StatesLeft, states-next, states-none}
-use Rattle.reduction.proofs.growth.with_states.Statement.{statement}
 use Rattle.reduction.proofs.growth.with_states.Tie as tie
+use Rattle.reduction.proofs.growth.Growing.{StatesLeft, states-next, states-none}
+use Rattle.reduction.proofs.growth.with_states.Statement.{statement}
 
 abbrev Inv-loop : tie.InvT-loop
 Inv-loop states grown₀ j₀ grown j = (j ≤ length states) × StatesLeft states (grown₀ .words) (grown .words) j

@@ -2,12 +2,12 @@
 use borrow.Author.Needs.{needs}
 use borrow.Author.Tests.{not-true, not-false}
 use mathlib.Core.Path.{_≡_, sym, _∙_}
-use Rattle.automaton.specs.Lists.{all}
-use Rattle.automaton.specs.StateSet.{member}
+use Rattle.lists.specs.Lists.{all}
+use Rattle.sets.specs.Set.{member}
 use Rattle.automaton.specs.Row.{ruleAt}
-use Rattle.reduction.proofs.Passes.{target-out, target-in}
-use Rattle.reduction.proofs.growth.with_target.Statement.{statement}
 use Rattle.reduction.proofs.growth.with_target.Tie as tie
+use Rattle.reduction.proofs.growth.Growing.{target-out, target-in}
+use Rattle.reduction.proofs.growth.with_target.Statement.{statement}
 
 tested : (c : tie.After-all-in)
     → let a = c .before .before .before .args in

@@ -3,8 +3,8 @@ use borrow.Author.Needs.{needs}
 use borrow.Author.Tests.{not-true, not-false}
 use mathlib.Core.Path.{sym, ap, _∙_}
 use mathlib.Core.Bool.{not}
-use Rattle.reduction.proofs.marking.is_better.Statement.{statement}
 use Rattle.reduction.proofs.marking.is_better.Tie as tie
+use Rattle.reduction.proofs.marking.is_better.Statement.{statement}
 
 returns : tie.Need-returns
 returns c =

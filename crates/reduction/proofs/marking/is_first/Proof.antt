@@ -7,9 +7,9 @@ use mathlib.Core.Path.{sym, _∙_}
 use mathlib.Core.List.{_∷_}
 use lib.ListN.{length, drop, getD, drop-of-length-le}
 use lib.Seq.{drop-cons}
-use Rattle.reduction.proofs.Marks.{alike-low, Seeking, seeking-all, seeking-next, seeking-found, seeking-none}
-use Rattle.reduction.proofs.marking.is_first.Statement.{statement}
 use Rattle.reduction.proofs.marking.is_first.Tie as tie
+use Rattle.reduction.proofs.marking.Marks.{alike-low, Seeking, seeking-all, seeking-next, seeking-found, seeking-none}
+use Rattle.reduction.proofs.marking.is_first.Statement.{statement}
 
 abbrev Inv-loop : tie.InvT-loop
 Inv-loop rows numbers i j₀ j = Seeking rows i (drop j numbers)

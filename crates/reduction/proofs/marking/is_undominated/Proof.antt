@@ -7,11 +7,11 @@ use mathlib.Core.Path.{_≡_, refl, _∙_}
 use mathlib.Core.Bool.{_||_}
 use lib.ListN.{length, drop, getD, drop-of-length-le}
 use lib.Seq.{drop-cons}
-use Rattle.simulation.specs.Tree.{any}
-use Rattle.simulation.specs.Words.{relationIn}
-use Rattle.reduction.proofs.Marks.{alike-low, better, alike-decide}
-use Rattle.reduction.proofs.marking.is_undominated.Statement.{statement}
+use Rattle.lists.specs.Lists.{any}
+use Rattle.refinement.specs.Words.{relationIn}
 use Rattle.reduction.proofs.marking.is_undominated.Tie as tie
+use Rattle.reduction.proofs.marking.Marks.{alike-low, better, alike-decide}
+use Rattle.reduction.proofs.marking.is_undominated.Statement.{statement}
 
 abbrev Inv-loop : tie.InvT-loop
 Inv-loop words rows numbers i j₀ j =

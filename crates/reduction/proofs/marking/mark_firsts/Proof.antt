@@ -3,11 +3,11 @@ use borrow.Author.Needs.{needs}
 use native.Mathlib.Omega.{arith}
 use Prim.Native.Nat.{_-_}
 use mathlib.Core.Path.{ap, _∙_}
-use Rattle.simulation.specs.Index.{keyOf, numbersOf}
+use Rattle.indexing.specs.Index.{keyOf, numbersOf}
 use Rattle.reduction.specs.Inner.{isFirst}
-use Rattle.reduction.proofs.Marks.{Marking, marking-none, marking-next, marking-all}
-use Rattle.reduction.proofs.marking.mark_firsts.Statement.{statement}
 use Rattle.reduction.proofs.marking.mark_firsts.Tie as tie
+use Rattle.reduction.proofs.marking.Marks.{Marking, marking-none, marking-next, marking-all}
+use Rattle.reduction.proofs.marking.mark_firsts.Statement.{statement}
 
 abbrev Inv-loop : tie.InvT-loop
 Inv-loop rows k n marks₀ index i₀ marks i = Marking (isFirst rows) k marks₀ marks i

@@ -5,12 +5,12 @@ use Prim.Native.Nat.{ℕ, _-_}
 use mathlib.Core.Path.{_∙_}
 use mathlib.Core.Logic.{⊎-elim}
 use mathlib.Core.Bool.{_&&_}
-use Rattle.automaton.specs.Lists.{all}
-use Rattle.automaton.specs.StateSet.{member}
+use Rattle.lists.specs.Lists.{all}
+use Rattle.sets.specs.Set.{member}
 use Rattle.automaton.specs.Row.{ruleAt}
-use Rattle.reduction.proofs.Marks.{Marking, marking-none, marking-next, marking-all}
-use Rattle.reduction.proofs.marking.mark_named.Statement.{statement}
 use Rattle.reduction.proofs.marking.mark_named.Tie as tie
+use Rattle.reduction.proofs.marking.Marks.{Marking, marking-none, marking-next, marking-all}
+use Rattle.reduction.proofs.marking.mark_named.Statement.{statement}
 
 abbrev Inv-loop : tie.InvT-loop
 Inv-loop set rows k marks₀ i₀ marks i =

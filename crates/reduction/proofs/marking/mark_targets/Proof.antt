@@ -3,11 +3,11 @@ use borrow.Author.Needs.{needs}
 use native.Mathlib.Omega.{arith}
 use Prim.Native.Nat.{ℕ, _-_}
 use mathlib.Core.Path.{ap, _∙_}
-use Rattle.automaton.specs.StateSet.{member}
+use Rattle.sets.specs.Set.{member}
 use Rattle.automaton.specs.Row.{ruleAt}
-use Rattle.reduction.proofs.Marks.{Marking, marking-none, marking-next, marking-all}
-use Rattle.reduction.proofs.marking.mark_targets.Statement.{statement}
 use Rattle.reduction.proofs.marking.mark_targets.Tie as tie
+use Rattle.reduction.proofs.marking.Marks.{Marking, marking-none, marking-next, marking-all}
+use Rattle.reduction.proofs.marking.mark_targets.Statement.{statement}
 
 abbrev Inv-loop : tie.InvT-loop
 Inv-loop set rows k marks₀ i₀ marks i = Marking (λ (j : ℕ). member (set .words) (ruleAt rows j .target)) k marks₀ marks i

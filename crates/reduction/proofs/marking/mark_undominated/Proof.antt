@@ -5,12 +5,12 @@ use Prim.Native.Nat.{ℕ, _-_}
 use mathlib.Core.Path.{_≡_, ap, _∙_}
 use mathlib.Core.Bool.{not}
 use Rattle.automaton.specs.Row.{ruleAt, rulesIn}
-use Rattle.simulation.specs.Words.{relationIn}
-use Rattle.simulation.specs.Index.{keyOf, numbersOf}
-use Rattle.reduction.specs.Steps.{dominated}
-use Rattle.reduction.proofs.Marks.{alike, Marking, marking-none, marking-next, marking-all}
-use Rattle.reduction.proofs.marking.mark_undominated.Statement.{statement}
+use Rattle.indexing.specs.Index.{keyOf, numbersOf}
+use Rattle.refinement.specs.Words.{relationIn}
+use Rattle.stages.specs.Steps.{dominated}
 use Rattle.reduction.proofs.marking.mark_undominated.Tie as tie
+use Rattle.reduction.proofs.marking.Marks.{alike, Marking, marking-none, marking-next, marking-all}
+use Rattle.reduction.proofs.marking.mark_undominated.Statement.{statement}
 
 abbrev Inv-loop : tie.InvT-loop
 Inv-loop words rows k n marks₀ index i₀ marks i =

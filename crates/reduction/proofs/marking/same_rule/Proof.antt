@@ -2,9 +2,9 @@
 use borrow.Author.Needs.{needs}
 use borrow.Author.Tests.{eq-eqb, ne-eqb}
 use mathlib.Core.Path.{sym, _∙_}
-use Rattle.reduction.specs.Steps.{sameRule}
-use Rattle.reduction.proofs.marking.same_rule.Statement.{statement}
+use Rattle.stages.specs.Steps.{sameRule}
 use Rattle.reduction.proofs.marking.same_rule.Tie as tie
+use Rattle.reduction.proofs.marking.same_rule.Statement.{statement}
 
 returns : tie.Need-returns
 unfolding sameRule

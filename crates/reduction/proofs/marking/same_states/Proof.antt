@@ -10,9 +10,9 @@ use mathlib.Core.Bool.{false, _&&_, and-false}
 use lib.ListN.{length, drop, getD, drop-of-length-le}
 use lib.Seq.{drop-cons}
 use lib.Dec.{eqb}
-use Rattle.reduction.specs.Steps.{sameStates}
-use Rattle.reduction.proofs.marking.same_states.Statement.{statement}
+use Rattle.stages.specs.Steps.{sameStates}
 use Rattle.reduction.proofs.marking.same_states.Tie as tie
+use Rattle.reduction.proofs.marking.same_states.Statement.{statement}
 
 abbrev Inv-loop : tie.InvT-loop
 Inv-loop qs rs j₀ j = (j ≤ length qs) × (length qs ≡ length rs) × (sameStates qs rs ≡ sameStates (drop j qs) (drop j rs))

@@ -10,16 +10,15 @@ use Rattle.automaton.specs.Automaton.{Automaton}
 use Rattle.automaton.specs.Answers.{writingOf}
 use Rattle.automaton.specs.Decoded.{sizeOf, automatonIn}
 use Rattle.automaton.specs.declared.table.Size.{Size}
-use Rattle.automaton.proofs.Rowing.{rules-length}
 use Rattle.automaton.specs.Inner.{RowsRoom}
-use Rattle.automaton.proofs.Meaning.{Held, held-well-formed, held-ranks, decoded-held}
-use Rattle.simulation.proofs.Queries.{refused-judged}
-use Rattle.reduction.specs.Reduce.{reduce, reductionRounds}
-use Rattle.reduction.proofs.Counting.{reduce-well-formed}
-use Rattle.reduction.proofs.Rewritten.{reduce-refused, reduce-short, reduce-written}
-use Rattle.reduction.proofs.Delivered.{promised}
-use Rattle.reduction.proofs.reducing.reduce.Statement.{statement}
+use Rattle.automaton.proofs.Rows.{rules-length}
+use Rattle.automaton.proofs.Held.{Held, held-well-formed, held-ranks, decoded-held, refused-judged}
+use Rattle.stages.specs.Steps.{reduce, reductionRounds}
+use Rattle.stages.proofs.Sizes.{reduce-well-formed}
 use Rattle.reduction.proofs.reducing.reduce.Tie as tie
+use Rattle.reduction.proofs.Answers.{reduce-refused, reduce-short, reduce-written}
+use Rattle.reduction.proofs.Demand3.{promised}
+use Rattle.reduction.proofs.reducing.reduce.Statement.{statement}
 
 -- The table's bytes are below 256.
 bytes-low : (d : tie.After-decode) → (i : ℕ) → getD (now (d .before .before .before .before .before .args .table)) i 0 < 256

@@ -5,9 +5,10 @@ use mathlib.Core.Logic.{⊎-elim}
 use native.Mathlib.Omega.{arith}
 use borrow.Author.Needs.{needs}
 use Rattle.reduction.specs.Inner.{marked}
-use Rattle.reduction.proofs.Overwriting.{Compacted, compacted-none, compacted-count, compacted-few, compacted-skip, compacted-keep}
-use Rattle.reduction.proofs.rows.compact.Statement.{statement}
 use Rattle.reduction.proofs.rows.compact.Tie as tie
+use Rattle.reduction.proofs.rows.Compacting.{Compacted, compacted-none, compacted-count, compacted-few, compacted-skip}
+use Rattle.reduction.proofs.rows.Compacting.{compacted-keep}
+use Rattle.reduction.proofs.rows.compact.Statement.{statement}
 
 abbrev Inv-loop : tie.InvT-loop
 Inv-loop rows₀ k marks kept₀ i₀ rows kept i = (i ≤ k) × Compacted (marked marks) rows₀ i kept rows

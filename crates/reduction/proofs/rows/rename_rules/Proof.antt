@@ -4,9 +4,9 @@ use mathlib.Core.Path.{_≡_}
 use native.Mathlib.Omega.{arith}
 use borrow.Author.Needs.{needs}
 use Rattle.reduction.specs.Inner.{nameIn}
-use Rattle.reduction.proofs.Overwriting.{Renamed, renamed-none, renamed-next}
-use Rattle.reduction.proofs.rows.rename_rules.Statement.{statement}
 use Rattle.reduction.proofs.rows.rename_rules.Tie as tie
+use Rattle.reduction.proofs.rows.Compacting.{Renamed, renamed-none, renamed-next}
+use Rattle.reduction.proofs.rows.rename_rules.Statement.{statement}
 
 abbrev Inv-loop : tie.InvT-loop
 Inv-loop rows₀ k names i₀ rows i = (i ≤ k) × Renamed (nameIn names) rows₀ i rows

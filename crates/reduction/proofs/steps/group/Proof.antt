@@ -4,12 +4,12 @@ use native.Mathlib.Omega.{arith}
 use Prim.Native.Nat.{ℕ, _<_}
 use mathlib.Core.Path.{_≡_, _∙_}
 use mathlib.Core.Bool.{true}
-use Rattle.automaton.specs.Lists.{from}
-use Rattle.reduction.specs.Steps.{Stage, below, equivalent, firstOf}
+use Rattle.lists.specs.Lists.{from}
+use Rattle.stages.specs.Steps.{Stage, below, equivalent, firstOf}
 use Rattle.reduction.specs.Inner.{nameIn, stageIn}
-use Rattle.reduction.proofs.Stepping.{renamed-low, grouped-rules, grouped-finals}
-use Rattle.reduction.proofs.steps.group.Statement.{statement}
 use Rattle.reduction.proofs.steps.group.Tie as tie
+use Rattle.reduction.proofs.steps.EachStep.{renamed-low, grouped-rules, grouped-finals}
+use Rattle.reduction.proofs.steps.group.Statement.{statement}
 
 abbrev blocks : tie.After-rename-rules → tie.After-name-blocks
 blocks r = r .before .before .before .before

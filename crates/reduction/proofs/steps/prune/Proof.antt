@@ -3,14 +3,14 @@ use borrow.Author.Needs.{needs}
 use mathlib.Core.Path.{ap, _∙_}
 use mathlib.Core.List.{List}
 use mathlib.Core.Bool.{not}
-use Rattle.automaton.specs.Lists.{keep}
+use Rattle.lists.specs.Lists.{keep}
 use Rattle.automaton.specs.Automaton.{Rule}
 use Rattle.automaton.specs.Row.{rulesIn}
-use Rattle.simulation.specs.Words.{relationIn}
-use Rattle.reduction.specs.Steps.{dominated, pruned}
-use Rattle.reduction.proofs.Staged.{marked-rules}
-use Rattle.reduction.proofs.steps.prune.Statement.{statement}
+use Rattle.refinement.specs.Words.{relationIn}
+use Rattle.stages.specs.Steps.{dominated, pruned}
 use Rattle.reduction.proofs.steps.prune.Tie as tie
+use Rattle.reduction.proofs.steps.StageArrays.{marked-rules}
+use Rattle.reduction.proofs.steps.prune.Statement.{statement}
 
 returns : tie.Need-returns
 unfolding pruned

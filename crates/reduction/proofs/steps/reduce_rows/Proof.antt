@@ -6,13 +6,12 @@ use mathlib.Core.List.{List}
 use Rattle.automaton.specs.Automaton.{Automaton}
 use Rattle.automaton.specs.Row.{rulesIn}
 use Rattle.automaton.specs.Decoded.{automatonIn}
-use Rattle.simulation.proofs.RelationWords.{zero-words}
-use Rattle.reduction.specs.Steps.{trimmed, below, roundsIn}
-use Rattle.reduction.specs.Reduce.{reductionRounds}
+use Rattle.simulation.proofs.RelationBytes.{zero-words}
+use Rattle.stages.specs.Steps.{trimmed, below, roundsIn, reductionRounds}
 use Rattle.reduction.specs.Inner.{stageIn}
-use Rattle.reduction.proofs.Decoding.{states-few, stage-trimmed, stage-sound, stage-simulable, reduced-arrays}
-use Rattle.reduction.proofs.steps.reduce_rows.Statement.{statement}
 use Rattle.reduction.proofs.steps.reduce_rows.Tie as tie
+use Rattle.reduction.proofs.steps.AllSteps.{states-few, stage-trimmed, stage-sound, stage-simulable, reduced-arrays}
+use Rattle.reduction.proofs.steps.reduce_rows.Statement.{statement}
 
 abbrev automaton : tie.Start → List ℕ → Automaton
 automaton s ranks = automatonIn (s .args .size) (s .args .finals .words) ranks (s .args .rows .now)

@@ -5,9 +5,9 @@ use mathlib.Core.List.{map}
 use lib.ListN.{length}
 use Rattle.automaton.specs.Automaton.{renamed}
 use Rattle.reduction.specs.Inner.{nameIn}
-use Rattle.reduction.proofs.Stepping.{numbered-rules, numbered-finals}
-use Rattle.reduction.proofs.steps.renumber.Statement.{statement}
 use Rattle.reduction.proofs.steps.renumber.Tie as tie
+use Rattle.reduction.proofs.steps.EachStep.{numbered-rules, numbered-finals}
+use Rattle.reduction.proofs.steps.renumber.Statement.{statement}
 
 returns : tie.Need-returns
 returns c =

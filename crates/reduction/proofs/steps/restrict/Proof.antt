@@ -1,9 +1,9 @@
 -- The rules whose target is found are marked, and the marked ones stay.
 use borrow.Author.Needs.{needs}
 use mathlib.Core.Path.{_∙_}
-use Rattle.reduction.proofs.Stepping.{restricted-rules}
-use Rattle.reduction.proofs.steps.restrict.Statement.{statement}
 use Rattle.reduction.proofs.steps.restrict.Tie as tie
+use Rattle.reduction.proofs.steps.EachStep.{restricted-rules}
+use Rattle.reduction.proofs.steps.restrict.Statement.{statement}
 
 returns : tie.Need-returns
 returns c =

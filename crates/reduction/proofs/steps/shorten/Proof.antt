@@ -1,14 +1,13 @@
 -- Each step leaves the next stage.
 use borrow.Author.Needs.{needs}
 use mathlib.Core.Path.{refl}
-use Rattle.reduction.specs.Steps.{Stage, below, quotient, pruned, restricted}
-use Rattle.reduction.specs.Reduce.{shortened}
+use Rattle.stages.specs.Steps.{Stage, below, quotient, pruned, restricted, shortened}
+use Rattle.stages.proofs.Soundness.{sound-pruned, sound-shortened}
 use Rattle.reduction.specs.Inner.{stageIn}
-use Rattle.reduction.proofs.Soundness.{sound-pruned, sound-shortened}
-use Rattle.reduction.proofs.Staged.{stage-low}
-use Rattle.reduction.proofs.Stepping.{quotient-low, kept-states-in}
-use Rattle.reduction.proofs.steps.shorten.Statement.{statement}
 use Rattle.reduction.proofs.steps.shorten.Tie as tie
+use Rattle.reduction.proofs.steps.StageArrays.{stage-low}
+use Rattle.reduction.proofs.steps.EachStep.{quotient-low, kept-states-in}
+use Rattle.reduction.proofs.steps.shorten.Statement.{statement}
 
 abbrev stage : tie.Start → Stage
 stage s =

@@ -1,11 +1,11 @@
 -- The targets are states that are left, which are below their number.
 use borrow.Author.Needs.{needs}
 use native.Mathlib.Omega.{arith}
-use Rattle.automaton.proofs.Rowing.{rule-in}
-use Rattle.simulation.specs.Index.{keyOf}
-use Rattle.simulation.proofs.Beginning.{states-low}
-use Rattle.reduction.proofs.steps.simulate_left.Statement.{statement}
+use Rattle.sets.proofs.StateSets.{states-low}
+use Rattle.automaton.proofs.Rows.{rule-in}
+use Rattle.indexing.specs.Index.{keyOf}
 use Rattle.reduction.proofs.steps.simulate_left.Tie as tie
+use Rattle.reduction.proofs.steps.simulate_left.Statement.{statement}
 
 index-rules-requires : tie.Need-index-rules-requires
 unfolding keyOf

@@ -1,9 +1,9 @@
 -- The rules that name only states to which a tree belongs are marked, and the marked ones stay.
 use borrow.Author.Needs.{needs}
 use mathlib.Core.Path.{_∙_}
-use Rattle.reduction.proofs.Stepping.{productive-found, trimmed-rules}
-use Rattle.reduction.proofs.steps.trim.Statement.{statement}
 use Rattle.reduction.proofs.steps.trim.Tie as tie
+use Rattle.reduction.proofs.steps.EachStep.{productive-found, trimmed-rules}
+use Rattle.reduction.proofs.steps.trim.Statement.{statement}
 
 returns : tie.Need-returns
 returns c =

@@ -1,9 +1,9 @@
 -- `simulation::checking::answer_for` meets its contract: the arrays of either size have room for the rules that the table may hold.
 use borrow.Author.Needs.{needs}
 use Rattle.automaton.specs.Inner.{RowsRoom}
-use Rattle.simulation.specs.Inner.{IndexRoom}
-use Rattle.simulation.proofs.checking.answer_for.Statement.{statement}
+use Rattle.indexing.specs.Index.{IndexRoom}
 use Rattle.simulation.proofs.checking.answer_for.Tie as tie
+use Rattle.simulation.proofs.checking.answer_for.Statement.{statement}
 
 answer-in-requires : tie.Need-answer-in-requires
 unfolding RowsRoom IndexRoom

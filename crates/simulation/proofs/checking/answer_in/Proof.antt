@@ -2,11 +2,11 @@
 use borrow.Author.Needs.{needs}
 use mathlib.Core.Path.{_∙_}
 use denote.Ref.{now}
-use Rattle.automaton.proofs.Meaning.{Held, decoded-held, decoded-writable}
-use Rattle.simulation.specs.Check.{acceptanceOf}
-use Rattle.simulation.proofs.Accepting.{table-refused, held-index, held-acceptance}
-use Rattle.simulation.proofs.checking.answer_in.Statement.{statement}
+use Rattle.automaton.proofs.Held.{Held, decoded-held, decoded-writable}
+use Rattle.trees.specs.Answers.{acceptanceOf}
 use Rattle.simulation.proofs.checking.answer_in.Tie as tie
+use Rattle.simulation.proofs.Acceptance.{table-refused, held-index, held-acceptance}
+use Rattle.simulation.proofs.checking.answer_in.Statement.{statement}
 
 abbrev decoded : tie.After-finals → tie.After-decode
 decoded c = c .before .before .before .before .before

@@ -2,8 +2,8 @@
 use borrow.Author.Needs.{needs}
 use mathlib.Core.Path.{ap, _∙_}
 use Rattle.simulation.specs.Check.{counted}
-use Rattle.simulation.proofs.checking.check.Statement.{statement}
 use Rattle.simulation.proofs.checking.check.Tie as tie
+use Rattle.simulation.proofs.checking.check.Statement.{statement}
 
 returns : tie.Need-returns
 returns c =

@@ -2,8 +2,8 @@
 use borrow.Author.Needs.{needs}
 use native.Mathlib.Omega.{arith}
 use Rattle.simulation.specs.Check.{more}
-use Rattle.simulation.proofs.checking.more.Statement.{statement}
 use Rattle.simulation.proofs.checking.more.Tie as tie
+use Rattle.simulation.proofs.checking.more.Statement.{statement}
 
 returns : tie.Need-returns
 unfolding more

@@ -3,11 +3,11 @@ use Prim.Native.Nat.{_-_, _≤_}
 use mathlib.Core.Path.{_≡_, sym}
 use native.Mathlib.Omega.{arith}
 use borrow.Author.Needs.{needs}
-use Rattle.automaton.specs.Lists.{from}
-use Rattle.automaton.specs.StateSet.{setOf, withAll}
-use Rattle.simulation.proofs.RelationWords.{set-next}
-use Rattle.simulation.proofs.query.all_states.Statement.{statement}
+use Rattle.lists.specs.Lists.{from}
+use Rattle.sets.specs.Set.{setOf, withAll}
 use Rattle.simulation.proofs.query.all_states.Tie as tie
+use Rattle.simulation.proofs.RelationBytes.{set-next}
+use Rattle.simulation.proofs.query.all_states.Statement.{statement}
 
 abbrev Inv-loop : tie.InvT-loop
 Inv-loop n set₀ q₀ set q = (q ≤ n) × (set .words ≡ setOf (from 0 q))

@@ -4,11 +4,11 @@ use native.Mathlib.Omega.{arith}
 use borrow.Author.Needs.{needs}
 use denote.Ref.{now}
 use Rattle.automaton.specs.Inner.{RowsRoom}
-use Rattle.automaton.proofs.Meaning.{Held, decoded-held}
-use Rattle.simulation.proofs.Queries.{states-are, states-few, rules-are, held-simulable, relation-is}
-use Rattle.simulation.proofs.Queries.{refused-judged, compares-refused, compares-outside, compares-by}
-use Rattle.simulation.proofs.query.compare.Statement.{statement}
+use Rattle.automaton.proofs.Held.{Held, decoded-held, refused-judged}
 use Rattle.simulation.proofs.query.compare.Tie as tie
+use Rattle.simulation.proofs.Queries.{states-are, states-few, rules-are, held-simulable, relation-is, compares-refused}
+use Rattle.simulation.proofs.Queries.{compares-outside, compares-by}
+use Rattle.simulation.proofs.query.compare.Statement.{statement}
 
 decode-requires : tie.Need-decode-requires
 unfolding RowsRoom

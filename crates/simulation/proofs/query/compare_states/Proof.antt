@@ -3,17 +3,17 @@ use Prim.Native.Nat.{ℕ}
 use mathlib.Core.Path.{_≡_, sym, ap, _∙_}
 use native.Mathlib.Omega.{arith}
 use borrow.Author.Needs.{needs}
-use Rattle.automaton.specs.Lists.{from}
+use Rattle.lists.specs.Lists.{from}
+use Rattle.records.specs.Read.{found}
 use Rattle.automaton.specs.Automaton.{Rule}
-use Rattle.automaton.specs.Read.{found}
 use Rattle.automaton.specs.Row.{rulesIn}
-use Rattle.simulation.specs.Simulation.{Relation, related, relation}
+use Rattle.indexing.specs.Index.{keyed}
+use Rattle.refinement.specs.Simulation.{Relation, related, relation}
 use Rattle.simulation.specs.Query.{rule, comparisonOf}
-use Rattle.simulation.specs.Index.{keyed}
 use Rattle.simulation.specs.Inner.{comparedBy}
-use Rattle.simulation.proofs.RelationWords.{zero-words}
-use Rattle.simulation.proofs.query.compare_states.Statement.{statement}
 use Rattle.simulation.proofs.query.compare_states.Tie as tie
+use Rattle.simulation.proofs.RelationBytes.{zero-words}
+use Rattle.simulation.proofs.query.compare_states.Statement.{statement}
 
 simulate-all-requires : tie.Need-simulate-all-requires
 simulate-all-requires c κs =

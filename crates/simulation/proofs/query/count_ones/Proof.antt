@@ -1,9 +1,9 @@
 -- The bits of a word, whose 64 bits are all.
 use native.Mathlib.Omega.{arith}
 use lib.Count.{ones-le}
-use Rattle.simulation.proofs.RelationWords.{ones-is}
-use Rattle.simulation.proofs.query.count_ones.Statement.{statement}
 use Rattle.simulation.proofs.query.count_ones.Tie as tie
+use Rattle.simulation.proofs.RelationBytes.{ones-is}
+use Rattle.simulation.proofs.query.count_ones.Statement.{statement}
 
 cast-result : tie.Need-cast-result
 cast-result c = omega (arith, ones-le 64 (c .args .word) (c .fits .word .fits))

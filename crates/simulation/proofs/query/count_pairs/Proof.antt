@@ -5,9 +5,9 @@ use native.Mathlib.Numerals.{add-one}
 use native.Mathlib.Omega.{arith}
 use borrow.Author.Needs.{needs}
 use Rattle.simulation.specs.Inner.{onesOf}
-use Rattle.simulation.proofs.RelationWords.{ones-few}
-use Rattle.simulation.proofs.query.count_pairs.Statement.{statement}
 use Rattle.simulation.proofs.query.count_pairs.Tie as tie
+use Rattle.simulation.proofs.RelationBytes.{ones-few}
+use Rattle.simulation.proofs.query.count_pairs.Statement.{statement}
 
 abbrev Inv-loop : tie.InvT-loop
 Inv-loop words n count₀ i₀ count i = (i ≤ 4 * n) × (count ≤ 64 * i) × (count ≡ onesOf words i)

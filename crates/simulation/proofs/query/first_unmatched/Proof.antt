@@ -9,16 +9,16 @@ use lib.ListN.{drop}
 use lib.Dec.{eqb}
 use borrow.Author.Tests.{eq-eqb, ne-eqb, not-true, not-false}
 use borrow.Author.Needs.{needs}
+use Rattle.lists.proofs.Booleans.{or-false-in, or-true-left, or-true-right}
 use Rattle.automaton.specs.Automaton.{Rule}
 use Rattle.automaton.specs.Row.{ruleAt, rulesIn}
-use Rattle.simulation.specs.Words.{relationIn}
-use Rattle.simulation.specs.Index.{keyed}
+use Rattle.indexing.specs.Index.{keyed}
+use Rattle.indexing.proofs.Indexing.{keyed-members}
+use Rattle.refinement.specs.Words.{relationIn}
 use Rattle.simulation.specs.Inner.{firstFailing, firstUnmatched}
-use Rattle.simulation.proofs.Search.{or-false-in, or-true-left, or-true-right}
-use Rattle.simulation.proofs.Indexing.{keyed-members}
+use Rattle.simulation.proofs.query.first_unmatched.Tie as tie
 use Rattle.simulation.proofs.Queries.{answered, matched-keyed, failing-here, failing-next, failing-end}
 use Rattle.simulation.proofs.query.first_unmatched.Statement.{statement}
-use Rattle.simulation.proofs.query.first_unmatched.Tie as tie
 
 abbrev Inv-loop : tie.InvT-loop
 Inv-loop words rows k q numbers i₀ i = (i ≤ k) × ((r : ℕ) → numbers ≡ keyed (λ (u : Rule). u .target) rows r 0 k

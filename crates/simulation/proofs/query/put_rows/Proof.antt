@@ -4,13 +4,13 @@ use mathlib.Core.Path.{_≡_, _∙_}
 use native.Mathlib.Omega.{arith}
 use lib.ListN.{length}
 use borrow.Author.Needs.{needs}
-use Rattle.automaton.specs.Lists.{from}
-use Rattle.automaton.specs.Inner.{over}
-use Rattle.automaton.proofs.WrittenBytes.{over-nil}
+use Rattle.lists.specs.Lists.{from}
+use Rattle.lists.specs.Over.{over}
+use Rattle.lists.proofs.Overwriting.{over-nil}
 use Rattle.simulation.specs.Inner.{bytesOf}
-use Rattle.simulation.proofs.RelationWords.{words-next}
-use Rattle.simulation.proofs.query.put_rows.Statement.{statement}
 use Rattle.simulation.proofs.query.put_rows.Tie as tie
+use Rattle.simulation.proofs.RelationBytes.{words-next}
+use Rattle.simulation.proofs.query.put_rows.Statement.{statement}
 
 abbrev Inv-loop : tie.InvT-loop
 Inv-loop words n out₀ i₀ out i =

@@ -5,13 +5,13 @@ use mathlib.Core.List.{[], _∷_}
 use native.Mathlib.Omega.{arith}
 use lib.ListN.{length, length-set}
 use borrow.Author.Needs.{needs}
-use Rattle.automaton.specs.Lists.{from}
-use Rattle.automaton.specs.Inner.{over}
-use Rattle.automaton.proofs.WrittenBytes.{over-nil}
+use Rattle.lists.specs.Lists.{from}
+use Rattle.lists.specs.Over.{over}
+use Rattle.lists.proofs.Overwriting.{over-nil}
 use Rattle.simulation.specs.Inner.{bytesOf}
-use Rattle.simulation.proofs.RelationWords.{word-next}
-use Rattle.simulation.proofs.query.put_word.Statement.{statement}
 use Rattle.simulation.proofs.query.put_word.Tie as tie
+use Rattle.simulation.proofs.RelationBytes.{word-next}
+use Rattle.simulation.proofs.query.put_word.Statement.{statement}
 
 abbrev Inv-loop : tie.InvT-loop
 Inv-loop out₀ at word j₀ out j = (j ≤ 8) × (length out ≡ length out₀) × (out ≡ over out₀ at (bytesOf (word ∷ []) j))

@@ -4,12 +4,12 @@ use native.Mathlib.Omega.{arith}
 use borrow.Author.Needs.{needs}
 use denote.Ref.{now}
 use Rattle.automaton.specs.Inner.{RowsRoom}
-use Rattle.automaton.proofs.Meaning.{Held, decoded-held}
-use Rattle.simulation.proofs.RelationWords.{zero-words}
-use Rattle.simulation.proofs.Queries.{states-are, states-few, held-simulable, relation-is, rounds-are}
-use Rattle.simulation.proofs.Queries.{refused-judged, query-refused, query-short, query-written}
-use Rattle.simulation.proofs.query.relate.Statement.{statement}
+use Rattle.automaton.proofs.Held.{Held, decoded-held, refused-judged}
 use Rattle.simulation.proofs.query.relate.Tie as tie
+use Rattle.simulation.proofs.RelationBytes.{zero-words}
+use Rattle.simulation.proofs.Queries.{states-are, states-few, held-simulable, relation-is, rounds-are, query-refused, query-short}
+use Rattle.simulation.proofs.Queries.{query-written}
+use Rattle.simulation.proofs.query.relate.Statement.{statement}
 
 decode-requires : tie.Need-decode-requires
 unfolding RowsRoom

@@ -1,14 +1,14 @@
 -- The index by target, and the simulation on all states with it.
 use mathlib.Core.Path.{_≡_}
 use borrow.Author.Needs.{needs}
-use Rattle.automaton.specs.Lists.{from}
-use Rattle.simulation.specs.Words.{statesIn}
-use Rattle.simulation.specs.Index.{keyOf}
-use Rattle.simulation.specs.Inner.{Answering}
-use Rattle.simulation.proofs.RelationWords.{all-states-in}
+use Rattle.lists.specs.Lists.{from}
+use Rattle.sets.specs.Set.{statesIn}
+use Rattle.indexing.specs.Index.{keyOf}
+use Rattle.refinement.specs.Inner.{Answering}
+use Rattle.simulation.proofs.query.simulate_all.Tie as tie
+use Rattle.simulation.proofs.RelationBytes.{all-states-in}
 use Rattle.simulation.proofs.Queries.{target-below}
 use Rattle.simulation.proofs.query.simulate_all.Statement.{statement}
-use Rattle.simulation.proofs.query.simulate_all.Tie as tie
 
 index-rules-requires : tie.Need-index-rules-requires
 unfolding keyOf

@@ -8,8 +8,8 @@ use Rattle.automaton.specs.Row.{Rows}
 use Rattle.automaton.specs.Decoded.{automatonIn}
 use Rattle.automaton.specs.Inner.{RowsRoom}
 use Rattle.automaton.proofs.Theorems.{decoded-writable}
-use Rattle.tables.proofs.case.decode.Statement.{statement}
 use Rattle.tables.proofs.case.decode.Tie as tie
+use Rattle.tables.proofs.case.decode.Statement.{statement}
 
 decode-requires : tie.Need-decode-requires
 unfolding RowsRoom

@@ -3,8 +3,8 @@ use Prim.Native.Nat.{_≤_, _-_}
 use lib.ListN.{length}
 use mathlib.Core.Path.{_≡_}
 use borrow.Author.Needs.{needs}
-use Rattle.tables.proofs.case.print_all.Statement.{statement}
 use Rattle.tables.proofs.case.print_all.Tie as tie
+use Rattle.tables.proofs.case.print_all.Statement.{statement}
 
 abbrev Inv-loop : tie.InvT-loop
 Inv-loop values i₀ i-end i = (i ≤ i-end) × (i-end ≡ length values)

@@ -1,8 +1,8 @@
 -- `tables::case::print_finals` is safe: the states are below 256.
 use Prim.Native.Nat.{_≤_, _-_}
 use borrow.Author.Needs.{needs}
-use Rattle.tables.proofs.case.print_finals.Statement.{statement}
 use Rattle.tables.proofs.case.print_finals.Tie as tie
+use Rattle.tables.proofs.case.print_finals.Statement.{statement}
 
 abbrev Inv-loop : tie.InvT-loop
 Inv-loop finals n q₀ q = q ≤ 256

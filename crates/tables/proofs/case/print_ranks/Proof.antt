@@ -2,8 +2,8 @@
 use borrow.Author.Needs.{needs}
 use mathlib.Core.Path.{sym}
 use lib.Seq.{length-take-le}
-use Rattle.tables.proofs.case.print_ranks.Statement.{statement}
 use Rattle.tables.proofs.case.print_ranks.Tie as tie
+use Rattle.tables.proofs.case.print_ranks.Statement.{statement}
 
 slice-aggregate-print-all : tie.Need-slice-aggregate-print-all
 slice-aggregate-print-all c =

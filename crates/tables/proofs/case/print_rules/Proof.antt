@@ -1,8 +1,8 @@
 -- `tables::case::print_rules` is safe: each row is one of the first k.
 use Prim.Native.Nat.{_≤_, _-_}
 use borrow.Author.Needs.{needs}
-use Rattle.tables.proofs.case.print_rules.Statement.{statement}
 use Rattle.tables.proofs.case.print_rules.Tie as tie
+use Rattle.tables.proofs.case.print_rules.Statement.{statement}
 
 abbrev Inv-loop : tie.InvT-loop
 Inv-loop rows k i₀ i = i ≤ k

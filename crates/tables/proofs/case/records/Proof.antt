@@ -2,8 +2,8 @@
 use Prim.Native.Nat.{_≤_, _<_, _-_}
 use lib.ListN.{length}
 use borrow.Author.Needs.{needs}
-use Rattle.tables.proofs.case.records.Statement.{statement}
 use Rattle.tables.proofs.case.records.Tie as tie
+use Rattle.tables.proofs.case.records.Statement.{statement}
 
 abbrev Inv-loop : tie.InvT-loop
 Inv-loop t rest₀ count₀ sum₀ rest count sum = (sum < 4294967291) × (count ≤ length t)

@@ -3,8 +3,8 @@ use borrow.Author.Needs.{needs}
 use native.Mathlib.Omega.{arith}
 use mathlib.Core.Path.{sym}
 use lib.Seq.{length-take-le}
-use Rattle.tables.proofs.case.write.Statement.{statement}
 use Rattle.tables.proofs.case.write.Tie as tie
+use Rattle.tables.proofs.case.write.Statement.{statement}
 
 slice-aggregate-attempt : tie.Need-slice-aggregate-attempt
 slice-aggregate-attempt c = sym (length-take-le _ (c .before .filled .result) (omega (arith, c .before .filled .ensures)))

@@ -1,8 +1,9 @@
 -- `simulation::checking::Counts::with` meets its contract: each answer has its count.
 use borrow.Author.Needs.{needs}
-use Rattle.simulation.specs.Check.{acceptanceOf, counted}
-use Rattle.simulation.proofs.checking.Counts.with.Statement.{statement}
+use Rattle.trees.specs.Answers.{acceptanceOf}
+use Rattle.simulation.specs.Check.{counted}
 use Rattle.simulation.proofs.checking.Counts.with.Tie as tie
+use Rattle.simulation.proofs.checking.Counts.with.Statement.{statement}
 
 returns : tie.Need-returns
 unfolding acceptanceOf counted

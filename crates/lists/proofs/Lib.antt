@@ -1,0 +1,9 @@
+pub mod Arrays
+pub mod Booleans
+pub mod Keeping
+pub mod Distinctness
+pub mod Elements
+pub mod Ranges
+pub mod Overwriting
+pub mod Rising
+pub mod Search

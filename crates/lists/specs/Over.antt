@@ -1,0 +1,9 @@
+-- An array with some elements written over others.
+use Prim.Native.Nat.{ℕ}
+use mathlib.Core.List.{List}
+use lib.ListN.{length}
+use lib.Seq.{paste}
+
+-- A buffer with some bytes written over what stood from `at` on.
+unfoldable pub over : List ℕ → ℕ → List ℕ → List ℕ
+over out at bytes = paste out at bytes (length bytes)

@@ -1,0 +1,1 @@
+// Laws of lists. There is no code.

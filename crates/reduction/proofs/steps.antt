@@ -1,0 +1,3 @@
+pub mod AllSteps
+pub mod EachStep
+pub mod StageArrays

@@ -1,0 +1,5 @@
+pub mod Refinement
+pub mod Simulations
+pub mod Maximality
+pub mod Pairs
+pub mod RelationRows

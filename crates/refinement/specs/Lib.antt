@@ -1,0 +1,3 @@
+pub mod Simulation
+pub mod Words
+pub mod Inner

@@ -1,0 +1,5 @@
+pub mod Decimal
+pub mod Text
+pub mod Reporting
+pub mod Theorems
+pub mod Examples

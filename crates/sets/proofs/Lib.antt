@@ -1,0 +1,2 @@
+pub mod StateSets
+pub mod EntrySets

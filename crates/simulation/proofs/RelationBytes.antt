@@ -1,0 +1,327 @@
+-- A relation in words: a bit is a pair, the words' bytes are the rows, and the bits that are set are the pairs.
+use Prim.Native.Nat.{ℕ, zero, suc, _+_, _-_, _*_, _/_, _%_, _^_, _≤_, _<_}
+use mathlib.Core.Path.{_≡_, refl, sym, ap, ap₂, _∙_}
+use mathlib.Core.List.{List, [], _∷_, _++_, map, map-append}
+use mathlib.Core.Bool.{Bool, true, false, cond, true≢false, false≢true}
+use native.Mathlib.Nat.{add-zero, add-suc, suc-add, zero-add, add-assoc}
+use native.Mathlib.Numerals.{add-one, add-two, add-three}
+use native.Mathlib.Omega.{arith}
+use lib.ListN.{length, getD, set, replicate, length-append, length-map, List·getD-append}
+use lib.Seq.{getD-append-add, sets-eq}
+use lib.Dec.{eqb}
+use lib.Pow.{mod-pow-add, shr-shr, shr-lt}
+use lib.Count.{ones, ones-step}
+use borrow.Author.Tests.{eq-eqb, ne-eqb, eqb-true, eqb-false}
+use Rattle.lists.specs.Lists.{from, keep}
+use Rattle.lists.specs.Over.{over}
+use Rattle.lists.proofs.Ranges.{from-low, from-rising, from-step, length-from, from-append, keep-none}
+use Rattle.lists.proofs.Overwriting.{over-then, kept-few}
+use Rattle.lists.proofs.Keeping.{keep-append}
+use Rattle.sets.specs.Set.{emptySet, withState, withAll, setOf, statesIn}
+use Rattle.sets.proofs.StateSets.{bit, bit-suc, states-of-set}
+use Rattle.refinement.specs.Simulation.{Relation, related}
+use Rattle.refinement.specs.Words.{relationIn}
+use Rattle.refinement.proofs.Pairs.{pairsIn}
+use Rattle.refinement.proofs.RelationRows.{pair-bit}
+use Rattle.simulation.specs.Query.{bitsFrom, rowBytes, relationRows}
+use Rattle.simulation.specs.Inner.{byteOf, bytesOf, onesIn, onesOf}
+
+pub all-states-in : (n : ℕ) → n ≤ 256 → statesIn n (setOf (from 0 n)) ≡ from 0 n
+unfolding statesIn
+all-states-in n h = states-of-set (from 0 n) n h (from-low 0 n n (omega arith)) (from-rising 0 n)
+
+-- The lowest bits of a number.
+
+digit : (t : Bool) (x : ℕ) → x < 2 → eqb x 1 ≡ t → x ≡ cond t 1 0
+digit true x h e = eqb-true x 1 e
+digit false x h e = let other : x ≡ 1 → ⊥ = eqb-false x 1 e in omega arith
+
+bit-shifted : (w s k : ℕ) → bit (w / 2 ^ s) k ≡ bit w (s + k)
+unfolding bit
+bit-shifted w s k = rw shr-shr
+
+low-bits : (R : Relation) (q n r x : ℕ) → ((k : ℕ) → k < n → bit x k ≡ related R q (r + k))
+    → x % 2 ^ n ≡ bitsFrom R q r n
+unfolding bitsFrom bit
+low-bits R q zero r x h = omega arith
+low-bits R q (suc n) r x h =
+    let first : x / 2 ^ 0 % 2 ≡ cond (related R q r) 1 0 =
+    digit (related R q r) (x / 2 ^ 0 % 2) (omega arith) (h 0 (omega arith) ∙ ap (related R q) (add-zero r)) in
+    let later : x / 2 % 2 ^ n ≡ bitsFrom R q (suc r) n =
+    low-bits R q n (suc r) (x / 2)
+    (λ k l. sym (bit-suc x k) ∙ h (suc k) (omega arith) ∙ ap (related R q) (omega arith)) in
+    let split : x % 2 ^ (n + 1) ≡ x / 2 ^ 1 % 2 ^ n * 2 ^ 1 + x % 2 ^ 1 = mod-pow-add x n 1 in
+    ap (λ (m : ℕ). x % 2 ^ m) (sym (add-one n)) ∙ split ∙ omega arith
+
+-- Bits that are set.
+
+ones-bits : (test : ℕ → Bool) (n r x : ℕ) → x < 2 ^ n → ((k : ℕ) → k < n → bit x k ≡ test (r + k))
+    → ones x ≡ length (keep test (from r n))
+unfolding keep from bit ones
+ones-bits test zero r x h same = let none : x ≡ 0 = omega arith in rw none
+ones-bits test (suc n) r x h same =
+    ones-step x ∙ go (test r) (digit (test r) (x / 2 ^ 0 % 2) (omega arith) (same 0 (omega arith) ∙ ap test (add-zero r)))
+    (ones-bits test n (suc r) (x / 2) (shr-lt n 1 (rw (add-one) h))
+    (λ k l. sym (bit-suc x k) ∙ same (suc k) (omega arith) ∙ ap test (omega arith)))
+  where
+    go : (t : Bool) → x / 2 ^ 0 % 2 ≡ cond t 1 0 → ones (x / 2) ≡ length (keep test (from (suc r) n))
+        → x % 2 + ones (x / 2) ≡ length (cond t (r ∷ keep test (from (suc r) n)) (keep test (from (suc r) n)))
+    go true d later = omega arith
+    go false d later = omega arith
+
+pub ones-is : (w : ℕ) → w < 2 ^ 64 → ones w ≡ onesIn w
+unfolding onesIn bit
+ones-is w h = ones-bits (bit w) 64 0 w h (λ k l. ap (bit w) (sym (zero-add k)))
+
+pub ones-few : (w : ℕ) → onesIn w ≤ 64
+unfolding onesIn
+ones-few w = kept-few _ 64
+
+length-keep-append : (test : ℕ → Bool) (i a b : ℕ)
+    → length (keep test (from i (a + b))) ≡ length (keep test (from i a)) + length (keep test (from (i + a) b))
+length-keep-append test i a b = rw (from-append, keep-append, length-append)
+
+kept-shifted : (f g : ℕ → Bool) (a b n : ℕ) → ((k : ℕ) → k < n → f (a + k) ≡ g (b + k))
+    → length (keep f (from a n)) ≡ length (keep g (from b n))
+unfolding keep from
+kept-shifted f g a b zero same = refl
+kept-shifted f g a b (suc n) same =
+    go (f a) (g b) (simp add-zero at (same 0 (omega arith)))
+    (kept-shifted f g (suc a) (suc b) n (λ k h. ap f (omega arith) ∙ same (suc k) (omega arith) ∙ ap g (omega arith)))
+  where
+    ps : List ℕ
+    ps = keep f (from (suc a) n)
+
+    qs : List ℕ
+    qs = keep g (from (suc b) n)
+
+    go : (s t : Bool) → s ≡ t → length ps ≡ length qs → length (cond s (a ∷ ps) ps) ≡ length (cond t (b ∷ qs) qs)
+    go true true e later = ap suc later
+    go true false e later = absurd (true≢false e)
+    go false true e later = absurd (false≢true e)
+    go false false e later = later
+
+pairs-append : (f : ℕ → ℕ → Bool) (ps qs rs : List ℕ) → pairsIn f (ps ++ qs) rs ≡ pairsIn f ps rs + pairsIn f qs rs
+unfolding pairsIn
+pairs-append f [] qs rs = sym (zero-add (pairsIn f qs rs))
+pairs-append f (p ∷ ps) qs rs = rw (pairs-append f ps qs rs, add-assoc)
+
+module _ (words : List ℕ) where
+  abbrev R : Relation
+  R = relationIn words
+
+  word-bit : (q j s : ℕ) → q < 256 → j < 4 → s < 64 → bit (getD words (4 * q + j) 0) s ≡ related R q (64 * j + s)
+  unfolding bit
+  word-bit q j s h k l =
+      let word : (64 * j + s) / 64 ≡ j = omega arith in
+      let place : (64 * j + s) % 64 ≡ s = omega arith in
+      rw (word, place) at (pair-bit words q (64 * j + s) h (omega arith))
+
+  byte-is : (q i : ℕ) → q < 256 → i < 32 → byteOf words (32 * q + i) ≡ bitsFrom R q (8 * i) 8
+  unfolding byteOf
+  byte-is q i h l =
+      let word : (32 * q + i) / 8 ≡ 4 * q + i / 8 = omega arith in
+      let place : (32 * q + i) % 8 ≡ i % 8 = omega arith in
+      rw (word, place)
+      (low-bits R q 8 (8 * i) (getD words (4 * q + i / 8) 0 / 2 ^ (8 * (i % 8)))
+      (λ k b. bit-shifted (getD words (4 * q + i / 8) 0) (8 * (i % 8)) k
+      ∙ word-bit q (i / 8) (8 * (i % 8) + k) h (omega arith) (omega arith) ∙ ap (related R q) (omega arith)))
+
+  row-bytes : (n q i : ℕ) → q < 256 → i + n ≤ 32 → map (byteOf words) (from (32 * q + i) n) ≡ rowBytes R q i n
+  unfolding rowBytes from
+  row-bytes zero q i h l = refl
+  row-bytes (suc n) q i h l =
+      rw (byte-is q i h (omega arith), ← add-suc (32 * q) i, row-bytes n q (suc i) h (omega arith))
+
+  rows-bytes : (n q : ℕ) → q + n ≤ 256 → map (byteOf words) (from (32 * q) (32 * n)) ≡ relationRows R (from q n)
+  unfolding relationRows from
+  rows-bytes zero q h = refl
+  rows-bytes (suc n) q h =
+      let more : 32 * suc n ≡ 32 + 32 * n = omega arith in
+      let next : 32 * q + 32 ≡ 32 * suc q = omega arith in
+      rw (more, from-append, map-append, next, ← row-bytes 32 q 0 (omega arith) (omega arith), add-zero)
+      (ap (_++_ (map (byteOf words) (from (32 * q) 32))) (rows-bytes n (suc q) (omega arith)))
+
+  pub bytes-rows : (n : ℕ) → n ≤ 256 → bytesOf words (32 * n) ≡ relationRows R (from 0 n)
+  unfolding bytesOf
+  bytes-rows n h = rows-bytes n 0 (omega arith)
+
+  ones-word : (q j : ℕ) → q < 256 → j < 4 → onesIn (getD words (4 * q + j) 0) ≡ length (keep (related R q) (from (64 * j) 64))
+  unfolding onesIn bit
+  ones-word q j h l =
+      kept-shifted (bit (getD words (4 * q + j) 0)) (related R q) 0 (64 * j) 64
+      (λ k b. ap (bit (getD words (4 * q + j) 0)) (zero-add k) ∙ word-bit q j k h l b)
+
+  ones-row : (q : ℕ) → q < 256 → onesOf words (4 * suc q) ≡ onesOf words (4 * q) + length (keep (related R q) (from 0 256))
+  unfolding onesOf
+  ones-row q h =
+      let four : 4 * suc q ≡ suc (suc (suc (suc (4 * q)))) = omega arith in
+      rw (four, ← add-three (4 * q), ← add-two (4 * q), ← add-one (4 * q))
+      (omega (
+        arith,
+        rw add-zero at (ones-word q 0 h (omega arith)),
+        ones-word q 1 h (omega arith),
+        ones-word q 2 h (omega arith),
+        ones-word q 3 h (omega arith),
+        length-keep-append (related R q) 0 64 192,
+        length-keep-append (related R q) 64 64 128,
+        length-keep-append (related R q) 128 64 64,
+      ))
+
+  ones-rows : (n : ℕ) → n ≤ 256 → onesOf words (4 * n) ≡ pairsIn (related R) (from 0 n) (from 0 256)
+  unfolding pairsIn onesOf
+  ones-rows zero h = unfold from in refl
+  ones-rows (suc n) h =
+      ones-row n (omega arith)
+      ∙ rw (ones-rows n (omega arith), ← add-one n, from-step, pairs-append, zero-add, add-zero)
+
+  narrowed : (qs : List ℕ) (n : ℕ) → n ≤ 256 → ((q r : ℕ) → n ≤ r → related R q r ≡ false)
+      → pairsIn (related R) qs (from 0 256) ≡ pairsIn (related R) qs (from 0 n)
+  unfolding pairsIn
+  narrowed [] n h low = refl
+  narrowed (q ∷ qs) n h low =
+      let all : n + (256 - n) ≡ 256 = omega arith in
+      let few : length (keep (related R q) (from 0 256)) ≡ length (keep (related R q) (from 0 n)) + 0 =
+      rw (all, zero-add, keep-none (related R q) n (256 - n) (λ r l b. low q r l))
+      at (length-keep-append (related R q) 0 n (256 - n)) in
+      rw (few, add-zero, narrowed qs n h low)
+
+  pub ones-pairs : (n : ℕ) → n ≤ 256 → ((q r : ℕ) → n ≤ r → related R q r ≡ false)
+      → onesOf words (4 * n) ≡ pairsIn (related R) (from 0 n) (from 0 n)
+  ones-pairs n h low = ones-rows n h ∙ narrowed (from 0 n) n h low
+
+-- The rows of any relation.
+
+lowest : (t : Bool) (x : ℕ) → (bit (cond t 1 0 + 2 * x) 0 ≡ t) × ((cond t 1 0 + 2 * x) / 2 ≡ x)
+unfolding bit
+lowest true x = (eq-eqb ((1 + 2 * x) / 2 ^ 0 % 2) 1 (omega arith), omega arith)
+lowest false x = (ne-eqb ((0 + 2 * x) / 2 ^ 0 % 2) 1 (omega arith), omega arith)
+
+module _ (R : Relation) where
+  length-row : (n q i : ℕ) → length (rowBytes R q i n) ≡ n
+  unfolding rowBytes
+  length-row zero q i = refl
+  length-row (suc n) q i = ap suc (length-row n q (suc i))
+
+  pub length-rows : (qs : List ℕ) → length (relationRows R qs) ≡ 32 * length qs
+  unfolding relationRows
+  length-rows [] = refl
+  length-rows (q ∷ qs) = rw (length-append, length-row, length-rows qs) (omega arith)
+
+  row-at : (n q i j : ℕ) → j < n → getD (rowBytes R q i n) j 0 ≡ bitsFrom R q (8 * (i + j)) 8
+  unfolding rowBytes
+  row-at zero q i j h = absurd (omega arith)
+  row-at (suc n) q i zero h = rw add-zero
+  row-at (suc n) q i (suc j) h = rw (add-suc, ← suc-add) (row-at n q (suc i) j (omega arith))
+
+  rows-at : (n p q j : ℕ) → q < n → j < 32 → getD (relationRows R (from p n)) (32 * q + j) 0 ≡ bitsFrom R (p + q) (8 * j) 8
+  unfolding relationRows from
+  rows-at zero p q j h l = absurd (omega arith)
+  rows-at (suc n) p zero j h l =
+      rw (zero-add, add-zero)
+      (List·getD-append (rowBytes R p 0 32) (relationRows R (from (suc p) n)) 0 j (omega (arith, length-row 32 p 0))
+      ∙ row-at 32 p 0 j l ∙ ap (λ (i : ℕ). bitsFrom R p (8 * i) 8) (zero-add j))
+  rows-at (suc n) p (suc q) j h l =
+      let place : 32 * suc q + j ≡ length (rowBytes R p 0 32) + (32 * q + j) = omega (arith, length-row 32 p 0) in
+      rw (place, getD-append-add, add-suc, ← suc-add) (rows-at n (suc p) q j (omega arith) l)
+
+  -- A bit of the rows is a pair.
+  bits-bit : (n q r k : ℕ) → k < n → bit (bitsFrom R q r n) k ≡ related R q (r + k)
+  unfolding bitsFrom
+  bits-bit zero q r k h = absurd (omega arith)
+  bits-bit (suc n) q r zero h = rw add-zero (lowest (related R q r) (bitsFrom R q (suc r) n) .0)
+  bits-bit (suc n) q r (suc k) h =
+      bit-suc _ k
+      ∙ ap (λ (x : ℕ). bit x k) (lowest (related R q r) (bitsFrom R q (suc r) n) .1)
+      ∙ bits-bit n q (suc r) k (omega arith)
+      ∙ ap (related R q) (omega arith)
+
+  pub rows-bit : (n q r : ℕ) → q < n → r < 256
+      → bit (getD (relationRows R (from 0 n)) (32 * q + r / 8) 0) (r % 8) ≡ related R q r
+  rows-bit n q r h b =
+      rw (rows-at n 0 q (r / 8) h (omega arith), zero-add)
+      (bits-bit 8 q (8 * (r / 8)) (r % 8) (omega arith) ∙ ap (related R q) (omega arith))
+
+-- A set that grows by the next state.
+
+with-append : (ws ps qs : List ℕ) → withAll ws (ps ++ qs) ≡ withAll (withAll ws ps) qs
+unfolding withAll
+with-append ws [] qs = refl
+with-append ws (p ∷ ps) qs = with-append (withState ws p) ps qs
+
+pub set-next : (n : ℕ) → setOf (from 0 (n + 1)) ≡ withState (setOf (from 0 n)) n
+unfolding setOf withAll
+set-next n = rw (from-step, zero-add) (with-append emptySet (from 0 n) (n ∷ []))
+
+-- A turn of the loop that writes the bytes, and of the one that counts.
+
+over-one : (out : List ℕ) (at v : ℕ) → at + 1 ≤ length out → set out at v ≡ over out at (v ∷ [])
+unfolding over
+over-one out at v h = sets-eq (v ∷ []) out at h
+
+length-bytes : (ws : List ℕ) (i : ℕ) → length (bytesOf ws i) ≡ i
+unfolding bytesOf
+length-bytes ws i = length-map (from 0 i) (byteOf ws) ∙ length-from 0 i
+
+-- A word's byte.
+word-byte : (w j : ℕ) → j < 8 → w / 2 ^ (8 * j) % 256 ≡ byteOf (w ∷ []) j
+unfolding byteOf
+word-byte w j h =
+    let first : j / 8 ≡ 0 = omega arith in
+    let same : j % 8 ≡ j = omega arith in
+    rw (first, same)
+
+pub word-next : (out : List ℕ) (at w : ℕ) (now : List ℕ) (j : ℕ) → now ≡ over out at (bytesOf (w ∷ []) j) → length now ≡ length out
+    → j < 8 → at + 8 ≤ length out → set now (at + j) (w / 2 ^ (8 * j) % 256) ≡ over out at (bytesOf (w ∷ []) (j + 1))
+word-next out at w now j e same h room =
+    let place : at + j ≡ at + length (bytesOf (w ∷ []) j) = ap (λ (n : ℕ). at + n) (sym (length-bytes (w ∷ []) j)) in
+    rw (word-byte w j h)
+    (over-then out at (bytesOf (w ∷ []) j) now (at + j) (byteOf (w ∷ []) j ∷ []) _ e
+    (over-one now (at + j) (byteOf (w ∷ []) j) (omega arith)) place (omega arith)
+    ∙ ap (over out at) (one-more j))
+  where
+    one-more : (j : ℕ) → bytesOf (w ∷ []) j ++ (byteOf (w ∷ []) j ∷ []) ≡ bytesOf (w ∷ []) (j + 1)
+    one-more j = unfold bytesOf in rw (from-step, map-append, zero-add)
+
+-- The bytes of one word more.
+shifted : (f g : ℕ → ℕ) (a b n : ℕ) → ((j : ℕ) → j < n → f (a + j) ≡ g (b + j)) → map f (from a n) ≡ map g (from b n)
+unfolding from
+shifted f g a b zero h = refl
+shifted f g a b (suc n) h =
+    ap₂ (λ (x : ℕ) (xs : List ℕ). x ∷ xs) (simp add-zero at (h 0 (omega arith)))
+    (shifted f g (suc a) (suc b) n (λ j l. later j l))
+  where
+    later : (j : ℕ) → j < n → f (suc a + j) ≡ g (suc b + j)
+    later j l =
+        let e : suc a + j ≡ a + suc j = omega arith in
+        let d : suc b + j ≡ b + suc j = omega arith in
+        rw (e, d) (h (suc j) (omega arith))
+
+bytes-word : (ws : List ℕ) (i : ℕ) → bytesOf ws (8 * i) ++ bytesOf (getD ws i 0 ∷ []) 8 ≡ bytesOf ws (8 * (i + 1))
+unfolding bytesOf byteOf
+bytes-word ws i =
+    let more : 8 * (i + 1) ≡ 8 * i + 8 = omega arith in
+    rw (more, from-append, map-append)
+    (ap (λ (l : List ℕ). map (byteOf ws) (from 0 (8 * i)) ++ l)
+    (sym (shifted (byteOf ws) (byteOf (getD ws i 0 ∷ [])) (0 + 8 * i) 0 8 (λ j h. same j h))))
+  where
+    same : (j : ℕ) → j < 8 → byteOf ws (0 + 8 * i + j) ≡ byteOf (getD ws i 0 ∷ []) (0 + j)
+    same j h =
+        let word : (0 + 8 * i + j) / 8 ≡ i = omega arith in
+        let byte : (0 + 8 * i + j) % 8 ≡ (0 + j) % 8 = omega arith in
+        let first : (0 + j) / 8 ≡ 0 = omega arith in
+        rw (word, byte, first)
+
+pub words-next : (out ws now : List ℕ) (i : ℕ) (next : List ℕ) → now ≡ over out 0 (bytesOf ws (8 * i))
+    → next ≡ over now (8 * i) (bytesOf (getD ws i 0 ∷ []) 8) → 8 * i + 8 ≤ length out → next ≡ over out 0 (bytesOf ws (8 * (i + 1)))
+words-next out ws now i next e f room =
+    let place : 8 * i ≡ 0 + length (bytesOf ws (8 * i)) = omega (arith, length-bytes ws (8 * i)) in
+    over-then out 0 (bytesOf ws (8 * i)) now (8 * i) (bytesOf (getD ws i 0 ∷ []) 8) next e f place
+    (omega (arith, length-bytes (getD ws i 0 ∷ []) 8))
+    ∙ ap (over out 0) (bytes-word ws i)
+
+-- Words that are 0.
+pub zero-words : (n i : ℕ) → getD (replicate {A = ℕ} n 0) i 0 ≡ 0
+zero-words zero i = refl
+zero-words (suc n) zero = refl
+zero-words (suc n) (suc i) = zero-words n i

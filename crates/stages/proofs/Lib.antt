@@ -1,0 +1,13 @@
+pub mod SameRules
+pub mod Firsts
+pub mod Quotient
+pub mod Numbering
+pub mod Pruning
+pub mod Closure
+pub mod Trimming
+pub mod Restricting
+pub mod Soundness
+pub mod Sizes
+pub mod Usefulness
+pub mod Agreement
+pub mod Fixpoint

@@ -1,0 +1,4 @@
+pub mod Acceptance
+pub mod NodeStates
+pub mod Nodes
+pub mod Stacks
