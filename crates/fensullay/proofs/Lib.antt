@@ -1,6 +1,3 @@
-pub mod Answering
-pub mod Comparing
-pub mod Leaving
-pub mod Means
-pub mod Reported
+pub mod Exported
+pub mod ReturnCodes
 pub mod Theorems

@@ -7,15 +7,12 @@ use mathlib.Core.List.{List}
 use lib.ListN.{length}
 use Rattle.records.specs.Read.{Read, found, refused}
 
--- The causes from 1 to a number; these or one more; one alone.
+-- The causes from 1 to a number; these or one more.
 abbrev pub UpTo : ℕ → ℕ → Type 0
 UpTo last cause = (1 ≤ cause) × (cause ≤ last)
 
 abbrev pub UpToOr : ℕ → ℕ → ℕ → Type 0
 UpToOr last other cause = UpTo last cause ⊎ (cause ≡ other)
-
-abbrev pub Just : ℕ → ℕ → Type 0
-Just one cause = cause ≡ one
 
 -- What the number means that a call returns. The call needs some elements in an array, and reads x. It returns 0 where it found something, or
 -- found yes; x's refusal, by one of the call's causes; 100 where the array has fewer elements; 101 where it found no. Each means that alone, and

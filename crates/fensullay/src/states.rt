@@ -12,9 +12,9 @@ use simulation::relate;
 // refusal, 1 to 7, or 13 where `out` is too short; or 100 where `numbers` has fewer than 2.
 #[no_mangle]
 pub extern "C" fn fensullay_relate(table: &[u8], out: &mut [u8], numbers: &mut [usize]) -> u32
-    ensures { λ r. ⌜ r ≡ spec.relateCode (now (table .entry)) (now (out .entry)) (now (numbers .entry)) ⌝ }
-    ensures { λ r. ⌜ now (numbers .exit) ≡ spec.relateNumbers (now (table .entry)) (now (out .entry)) (now (numbers .entry)) ⌝ }
-    ensures { λ r. ⌜ now (out .exit) ≡ spec.relateOut (now (table .entry)) (now (out .entry)) (now (numbers .entry)) ⌝ }
+    ensures { λ r. ⌜ r ≡ spec.relating (now (table .entry)) (now (out .entry)) (now (numbers .entry)) .code ⌝ }
+    ensures { λ r. ⌜ now (numbers .exit) ≡ spec.relating (now (table .entry)) (now (out .entry)) (now (numbers .entry)) .numbers ⌝ }
+    ensures { λ r. ⌜ now (out .exit) ≡ spec.relating (now (table .entry)) (now (out .entry)) (now (numbers .entry)) .out ⌝ }
 {
     if numbers.len() < 2 {
         return 100;

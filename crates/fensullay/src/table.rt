@@ -13,8 +13,8 @@ use reporting::report;
 // Judges a table: 0, and its states, symbols and rules in `numbers`; or the refusal, 1 to 7; or 100 where `numbers` has fewer than 3.
 #[no_mangle]
 pub extern "C" fn fensullay_judge(table: &[u8], numbers: &mut [usize]) -> u32
-    ensures { λ r. ⌜ r ≡ spec.judgeCode (now (table .entry)) (now (numbers .entry)) ⌝ }
-    ensures { λ r. ⌜ now (numbers .exit) ≡ spec.judgeNumbers (now (table .entry)) (now (numbers .entry)) ⌝ }
+    ensures { λ r. ⌜ r ≡ spec.judging (now (table .entry)) (now (numbers .entry)) .code ⌝ }
+    ensures { λ r. ⌜ now (numbers .exit) ≡ spec.judging (now (table .entry)) (now (numbers .entry)) .numbers ⌝ }
 {
     if numbers.len() < 3 {
         return 100;
@@ -32,9 +32,9 @@ pub extern "C" fn fensullay_judge(table: &[u8], numbers: &mut [usize]) -> u32
 // refusal, 1 to 7, or 13 where `out` is too short; or 100 where `numbers` has fewer than 6.
 #[no_mangle]
 pub extern "C" fn fensullay_reduce(table: &[u8], out: &mut [u8], numbers: &mut [usize]) -> u32
-    ensures { λ r. ⌜ r ≡ spec.reduceCode (now (table .entry)) (now (out .entry)) (now (numbers .entry)) ⌝ }
-    ensures { λ r. ⌜ now (numbers .exit) ≡ spec.reduceNumbers (now (table .entry)) (now (out .entry)) (now (numbers .entry)) ⌝ }
-    ensures { λ r. ⌜ now (out .exit) ≡ spec.reduceOut (now (table .entry)) (now (out .entry)) (now (numbers .entry)) ⌝ }
+    ensures { λ r. ⌜ r ≡ spec.reducing (now (table .entry)) (now (out .entry)) (now (numbers .entry)) .code ⌝ }
+    ensures { λ r. ⌜ now (numbers .exit) ≡ spec.reducing (now (table .entry)) (now (out .entry)) (now (numbers .entry)) .numbers ⌝ }
+    ensures { λ r. ⌜ now (out .exit) ≡ spec.reducing (now (table .entry)) (now (out .entry)) (now (numbers .entry)) .out ⌝ }
 {
     if numbers.len() < 6 {
         return 100;
@@ -46,10 +46,10 @@ pub extern "C" fn fensullay_reduce(table: &[u8], out: &mut [u8], numbers: &mut [
                 numbers,
                 &[
                     r.length,
-                    r.old_states,
-                    r.new_states,
-                    r.old_rules,
-                    r.new_rules,
+                    r.old.states,
+                    r.new.states,
+                    r.old.rules,
+                    r.new.rules,
                     r.rounds,
                 ],
             );
@@ -62,9 +62,9 @@ pub extern "C" fn fensullay_reduce(table: &[u8], out: &mut [u8], numbers: &mut [
 // shorter than they are; or 100 where `numbers` is empty.
 #[no_mangle]
 pub extern "C" fn fensullay_report(input: &[u8], out: &mut [u8], numbers: &mut [usize]) -> u32
-    ensures { λ r. ⌜ r ≡ spec.reportCode (now (input .entry)) (now (out .entry)) (now (numbers .entry)) ⌝ }
-    ensures { λ r. ⌜ now (numbers .exit) ≡ spec.reportNumbers (now (input .entry)) (now (out .entry)) (now (numbers .entry)) ⌝ }
-    ensures { λ r. ⌜ now (out .exit) ≡ spec.reportOut (now (input .entry)) (now (out .entry)) (now (numbers .entry)) ⌝ }
+    ensures { λ r. ⌜ r ≡ spec.reporting (now (input .entry)) (now (out .entry)) (now (numbers .entry)) .code ⌝ }
+    ensures { λ r. ⌜ now (numbers .exit) ≡ spec.reporting (now (input .entry)) (now (out .entry)) (now (numbers .entry)) .numbers ⌝ }
+    ensures { λ r. ⌜ now (out .exit) ≡ spec.reporting (now (input .entry)) (now (out .entry)) (now (numbers .entry)) .out ⌝ }
 {
     if numbers.len() < 1 {
         return 100;

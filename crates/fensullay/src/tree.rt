@@ -11,8 +11,8 @@ use simulation::check;
 // are accepted, not accepted, refused. Or 100 where `counts` has fewer than 3.
 #[no_mangle]
 pub extern "C" fn fensullay_check(counts: &mut [u32], table: &[u8], tree: &[u8]) -> u32
-    ensures { λ r. ⌜ r ≡ spec.checkCode (now (counts .entry)) (now (table .entry)) (now (tree .entry)) ⌝ }
-    ensures { λ r. ⌜ now (counts .exit) ≡ spec.checkCounts (now (counts .entry)) (now (table .entry)) (now (tree .entry)) ⌝ }
+    ensures { λ r. ⌜ r ≡ spec.checking (now (counts .entry)) (now (table .entry)) (now (tree .entry)) .code ⌝ }
+    ensures { λ r. ⌜ now (counts .exit) ≡ spec.checking (now (counts .entry)) (now (table .entry)) (now (tree .entry)) .numbers ⌝ }
 {
     if counts.len() < 3 {
         return 100;

@@ -19,3 +19,7 @@ numberOf Unbalanced = 10
 numberOf TreeAboveLimit = 11
 numberOf UnknownState = 12
 numberOf ShortOutput = 13
+
+-- The greatest of these numbers.
+abbrev pub lastCause : ℕ
+lastCause = 13

@@ -18,6 +18,7 @@ use Rattle.records.proofs.Causes.{Causes, causes}
 use Rattle.records.proofs.Buffers.{Keeps, bind-keeps, written-keeps}
 use Rattle.automaton.specs.Automaton.{Automaton}
 use Rattle.automaton.specs.Table.{judge, encode}
+use Rattle.automaton.specs.Decoded.{sizeOf}
 use Rattle.automaton.proofs.TableCauses.{TableCauseOr, table-causes-or}
 use Rattle.trees.specs.Tree.{Tree, accepts}
 use Rattle.trees.specs.Run.{Accepts}
@@ -31,14 +32,7 @@ use Rattle.reduction.specs.declared.reducing.Reduction.{Reduction}
 
 -- What the call returns for an automaton that fits.
 unfoldable pub answerFor : Automaton → Reduction
-answerFor A = record {
-  length = length (encode (reduce A));
-  «old_states» = A .states;
-  «new_states» = reduce A .states;
-  «old_rules» = length (A .rules);
-  «new_rules» = length (reduce A .rules);
-  rounds = reductionRounds A;
-}
+answerFor A = record { length = length (encode (reduce A)); old = sizeOf A; new = sizeOf (reduce A); rounds = reductionRounds A }
 
 module _ (table out : List ℕ) (A : Automaton) (e : judge table ≡ found A) where
   pub reduction-fits : length (encode (reduce A)) ≤ length out → reduction table out ≡ found (answerFor A)
@@ -50,30 +44,27 @@ module _ (table out : List ℕ) (A : Automaton) (e : judge table ≡ found A) wh
   unfolding reductionAfter writtenOver
   after-fits h = rw (e, le-leb (length (encode (reduce A))) (length out) h)
 
-  pub fits-reduction : (r : Reduction) → reduction table out ≡ found r → length (encode (reduce A)) ≤ length out
-  unfolding reduction written _>>=_
-  fits-reduction r h = go (leb (length (encode (reduce A))) (length out)) refl (rw e at h)
-    where
-      go : (t : Bool) → leb (length (encode (reduce A))) (length out) ≡ t
-          → (cond t (found (length (encode (reduce A)))) (refused 13) >>= (λ (n : ℕ). found (record {
-            length = n;
-            «old_states» = A .states;
-            «new_states» = reduce A .states;
-            «old_rules» = length (A .rules);
-            «new_rules» = length (reduce A .rules);
-            rounds = reductionRounds A;
-          }))) ≡ found r → length (encode (reduce A)) ≤ length out
-      go true f g = leb-true (length (encode (reduce A))) (length out) f
-      go false f g = absurd (refused≢found g)
-
   pub written-bytes : length (encode (reduce A)) ≤ length out
       → take (answerFor A .length) (reductionAfter (judge table) out) ≡ encode (reduce A)
   unfolding answerFor
   written-bytes h = rw (after-fits h) (take-append-seam (encode (reduce A)) (drop (length (encode (reduce A))) out))
 
-pub reduction-judged : (table out : List ℕ) (r : Reduction) → reduction table out ≡ found r → (A : Automaton) × (judge table ≡ found A)
+written-fits : (bytes out : List ℕ) {size : ℕ} → written bytes out ≡ found size → length bytes ≤ length out
+unfolding written
+written-fits bytes out {size} h = go (leb (length bytes) (length out)) refl h
+  where
+    go : (t : Bool) → leb (length bytes) (length out) ≡ t → cond t (found (length bytes)) (refused 13) ≡ found size
+        → length bytes ≤ length out
+    go true e h = leb-true (length bytes) (length out) e
+    go false e h = absurd (refused≢found h)
+
+pub found-fits : (table out : List ℕ) (r : Reduction) → reduction table out ≡ found r
+    → (A : Automaton) × (judge table ≡ found A) × (length (encode (reduce A)) ≤ length out)
 unfolding reduction
-reduction-judged table out r h = let s = bind-found (judge table) _ h in (s .0, s .1)
+found-fits table out r h =
+    let (A, e, put) = bind-found (judge table) _ h in
+    let (size, fits, is) = bind-found (written (encode (reduce A)) out) _ put in
+    (A, e, written-fits (encode (reduce A)) out fits)
 
 pub reduction-causes : (table out : List ℕ) → Causes (TableCauseOr 13) (reduction table out)
 unfolding reduction written
@@ -119,9 +110,8 @@ module _ (table out after : List ℕ) (A B : Automaton) (e : judge table ≡ fou
   unfolding reductionOf reduction _>>=_
   reduce-short cause h = (rw (e, ← rw same at h), after-is)
 
-  pub reduce-written : (r : Reduction) → found (r .length) ≡ written (encode B) out → r .«old_states» ≡ A .states
-      → r .«new_states» ≡ B .states → r .«old_rules» ≡ length (A .rules) → r .«new_rules» ≡ length (B .rules)
+  pub reduce-written : (r : Reduction) → found (r .length) ≡ written (encode B) out → r .old ≡ sizeOf A → r .new ≡ sizeOf B
       → r .rounds ≡ reductionRounds A
       → (reductionOf (answers.Table r) ≡ reduction table out) × (after ≡ reductionAfter (judge table) out)
   unfolding reductionOf reduction _>>=_
-  reduce-written r h a b c d f = (rw (e, ← rw same at h, a, rw same at b, c, rw same at d, f), after-is)
+  reduce-written r h old new rounds = (rw (e, ← rw same at h, old, rw same at new, rounds), after-is)

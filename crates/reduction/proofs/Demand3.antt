@@ -7,6 +7,7 @@ use Rattle.records.specs.Refusal.{numberOf}
 use Rattle.records.specs.Read.{found}
 use Rattle.automaton.specs.Automaton.{Automaton, WellFormed}
 use Rattle.automaton.specs.Table.{judge, encode}
+use Rattle.automaton.specs.Decoded.{sizeOf}
 use Rattle.automaton.proofs.Theorems.{judged-well-formed, encode-judged, judge-encoded}
 use Rattle.stages.specs.Steps.{numbered, reduce}
 use Rattle.stages.proofs.Sizes.{reduce-well-formed, reduce-shorter}
@@ -17,8 +18,8 @@ use Rattle.reduction.specs.Demand3.{Again, Demand3, MeetsDemand3}
 use Rattle.reduction.specs.declared.reducing.Reduction.{Reduction}
 use Rattle.reduction.specs.declared.reducing.Reduced.{Reduced}
 use Rattle.reduction.specs.declared.reducing.Reduced.the-variants.{Table, Refused}
-use Rattle.reduction.proofs.Answers.{answerFor, reduction-fits, after-fits, fits-reduction, written-bytes, reduction-judged}
-use Rattle.reduction.proofs.Answers.{reduction-keeps, acceptance-same}
+use Rattle.reduction.proofs.Answers.{answerFor, reduction-fits, after-fits, written-bytes, found-fits, reduction-keeps}
+use Rattle.reduction.proofs.Answers.{acceptance-same}
 
 pub ranks-stay : (A : Automaton) → reduce A .ranks ≡ A .ranks
 unfolding reduce numbered
@@ -43,8 +44,7 @@ again-from A w room h =
       answer = answerFor B;
       is-answer = reduction-fits (encode B) room B judged fits;
       length-is = ap (λ (C : Automaton). length (encode C)) same;
-      states = ap (λ (C : Automaton). C .states) same;
-      rules = ap (λ (C : Automaton). length (C .rules)) same;
+      counts = ap sizeOf same;
       writes = rw same at (after-fits (encode B) room B judged fits);
     }
 
@@ -63,10 +63,8 @@ demand-3-from table out A bytes e fits =
       is-first = e;
       is-reduced = judged;
       length-is = refl;
-      old-states = refl;
-      new-states = refl;
-      old-rules = refl;
-      new-rules = refl;
+      old = refl;
+      new = refl;
       rounds = refl;
       no-longer = reduced-fits table A bytes e;
       stays = after-fits table out A e fits;
@@ -80,8 +78,7 @@ demand-3-from table out A bytes e fits =
 pub demand-3 : (table out : List ℕ) (r : Reduction) → ((i : ℕ) → getD table i 0 < 256) → reduction table out ≡ found r
     → Demand3 table out r (take (r .length) (reductionAfter (judge table) out))
 demand-3 table out r bytes h =
-    let (A, e) = reduction-judged table out r h in
-    let fits = fits-reduction table out A e r h in
+    let (A, e, fits) = found-fits table out r h in
     let answer : r ≡ answerFor A = cc (h, reduction-fits table out A e fits) in
     rw (answer, written-bytes table out A e fits) (demand-3-from table out A bytes e fits)
 

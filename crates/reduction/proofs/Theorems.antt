@@ -11,6 +11,7 @@ use Rattle.records.specs.Read.{found, refused}
 use Rattle.records.proofs.Causes.{cause-of}
 use Rattle.automaton.specs.Automaton.{Rule, Automaton, WellFormed}
 use Rattle.automaton.specs.Table.{judge, encode}
+use Rattle.automaton.specs.Decoded.{sizeOf}
 use Rattle.trees.specs.Tree.{Tree, Over}
 use Rattle.trees.specs.Run.{Reaches, Accepts}
 use Rattle.trees.specs.Answers.{acceptanceOf}
@@ -134,10 +135,8 @@ module _ (A : Automaton) (w : WellFormed A) where
 module _ (table : List ℕ) (A : Automaton) (judged : judge table ≡ found A) where
   pub reduction-answers : (out : List ℕ) → length (encode (reduce A)) ≤ length out → reduction table out ≡ found (record {
     length = length (encode (reduce A));
-    «old_states» = A .states;
-    «new_states» = reduce A .states;
-    «old_rules» = length (A .rules);
-    «new_rules» = length (reduce A .rules);
+    old = sizeOf A;
+    new = sizeOf (reduce A);
     rounds = reductionRounds A;
   })
   unfolding rewritten.answerFor

@@ -8,6 +8,7 @@ use lib.ListN.{length, take, drop}
 use Rattle.records.specs.Read.{found}
 use Rattle.automaton.specs.Automaton.{Automaton}
 use Rattle.automaton.specs.Table.{judge}
+use Rattle.automaton.specs.Decoded.{sizeOf}
 use Rattle.trees.specs.Tree.{Tree, Over}
 use Rattle.trees.specs.Run.{Accepts}
 use Rattle.simulation.specs.Check.{acceptance}
@@ -18,13 +19,12 @@ use Rattle.reduction.specs.Reduce.{reduction, reductionAfter}
 use Rattle.reduction.specs.declared.reducing.Reduction.{Reduction}
 use Rattle.reduction.specs.declared.reducing.Reduced.{Reduced}
 
--- Handed in as the table, with some room, a table gives its own bytes and length, and loses no state and no rule.
+-- Handed in as the table, with some room, a table gives its own bytes and length, and loses no state, no symbol and no rule.
 pub record Again (bytes room : List ℕ) : Type 0 where
   pub answer : Reduction
   pub is-answer : reduction bytes room ≡ found answer
   pub length-is : answer .length ≡ length bytes
-  pub states : answer .«new_states» ≡ answer .«old_states»
-  pub rules : answer .«new_rules» ≡ answer .«old_rules»
+  pub counts : answer .new ≡ answer .old
   pub writes : reductionAfter (judge bytes) room ≡ bytes ++ drop (length bytes) room
 
 pub record Demand3 (table out : List ℕ) (r : Reduction) (bytes : List ℕ) : Type 0 where
@@ -36,10 +36,8 @@ pub record Demand3 (table out : List ℕ) (r : Reduction) (bytes : List ℕ) : T
   -- The answer's numbers are theirs; the length never exceeds the table's. In the output, which the call promises to be `reductionAfter`, what
   -- stood after the bytes stays.
   pub length-is : length bytes ≡ r .length
-  pub old-states : r .«old_states» ≡ first .states
-  pub new-states : r .«new_states» ≡ reduced .states
-  pub old-rules : r .«old_rules» ≡ length (first .rules)
-  pub new-rules : r .«new_rules» ≡ length (reduced .rules)
+  pub old : r .old ≡ sizeOf first
+  pub new : r .new ≡ sizeOf reduced
   pub rounds : r .rounds ≡ reductionRounds first
   pub no-longer : length bytes ≤ length table
   pub stays : reductionAfter (judge table) out ≡ bytes ++ drop (r .length) out

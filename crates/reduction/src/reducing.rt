@@ -6,19 +6,18 @@ ghost use Rattle.reduction.specs.Demand3.{MeetsDemand3};
 use crate::steps::reduce_rows;
 use automaton::Judged;
 use automaton::ROWS;
+use automaton::Size;
 use automaton::Written;
 use automaton::decode;
 use automaton::write;
 use records::Refusal;
 
-// The length of the reduced table, the states and rules of the table and of the reduced one, and the rounds of step 2, which are those of
-// the simulation on what step 1 leaves.
+// The length of the reduced table, the counts of the table and of the reduced one, and the rounds of step 2, which are those of the
+// simulation on what step 1 leaves.
 pub struct Reduction {
     pub length: usize,
-    pub old_states: usize,
-    pub new_states: usize,
-    pub old_rules: usize,
-    pub new_rules: usize,
+    pub old: Size,
+    pub new: Size,
     pub rounds: usize,
 }
 
@@ -49,10 +48,8 @@ pub fn reduce(table: &[u8], out: &mut [u8]) -> Reduced
                 Written::Refused(cause) => Reduced::Refused(cause),
                 Written::Bytes(length) => Reduced::Table(Reduction {
                     length,
-                    old_states: size.states,
-                    new_states: left.states,
-                    old_rules: size.rules,
-                    new_rules: left.rules,
+                    old: size,
+                    new: left,
                     rounds: short.rounds,
                 }),
             }

@@ -89,11 +89,11 @@ fn write_sum(out: &[u8]) {
 
 fn write_lines(r: Reduction) {
     write_word(b"reduced\nstates");
-    write_number(r.old_states);
-    write_number(r.new_states);
+    write_number(r.old.states);
+    write_number(r.new.states);
     write_word(b"\nrules");
-    write_number(r.old_rules);
-    write_number(r.new_rules);
+    write_number(r.old.rules);
+    write_number(r.new.rules);
     write_word(b"\nrounds");
     write_number(r.rounds);
     write_word(b"\nlength");

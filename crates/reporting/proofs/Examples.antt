@@ -14,6 +14,7 @@ use Rattle.records.proofs.Buffers.{room-enough, room-short}
 use Rattle.automaton.specs.Automaton.{Automaton, renamed}
 use Rattle.automaton.specs.Table.{dueIn, due, ruleIn, judgeRule, judgeRules, judgeFinals, judgeRanks, judge, encodeRule, encodeRules}
 use Rattle.automaton.specs.Table.{encode}
+use Rattle.automaton.specs.Decoded.{sizeOf}
 use Rattle.automaton.proofs.Examples.{T}
 use Rattle.trees.specs.Tree.{belongs, accepts}
 use Rattle.trees.specs.Postfix.{treesIn, push, pushAll, single, isTreeRecord, judgeTree}
@@ -109,7 +110,7 @@ pub record ReducesTo (table bytes : List ℕ) (answer : Reduction) : Type 0 wher
 pub record Bench : Type 0 where
   -- T reduces to 63 bytes: two states, three rules, one round.
   pub B1 : ReducesTo tableT shortT
-      (record { length = 63; «old_states» = 5; «new_states» = 2; «old_rules» = 8; «new_rules» = 3; rounds = 1 })
+      (record { length = 63; old = record { states = 5; symbols = 3; rules = 8 }; new = record { states = 2; symbols = 3; rules = 3 }; rounds = 1 })
   -- T as handed in: two rounds, nine pairs. The rows of its five states take 160 bytes.
   pub B2 : (out : List ℕ) → 160 ≤ length out → relationQuery tableT out ≡ found (record { rounds = 2; pairs = 9 })
   -- The pairs (2, 0), (0, 2) and (3, 4), and the answers that the promise allows for each.
@@ -127,7 +128,7 @@ pub record Bench : Type 0 where
   pub B10 : (acceptance tableT (2 ∷ 0 ∷ 0 ∷ 0 ∷ 16 ∷ 0 ∷ []) ≡ refused 10)
       × (acceptance tableT (4 ∷ 0 ∷ 0 ∷ 0 ∷ 16 ∷ 0 ∷ 3 ∷ 0 ∷ []) ≡ refused 9)
   pub B11 : ReducesTo emptyTable emptyTable
-      (record { length = 24; «old_states» = 0; «new_states» = 0; «old_rules» = 0; «new_rules» = 0; rounds = 0 })
+      (record { length = 24; old = record { states = 0; symbols = 0; rules = 0 }; new = record { states = 0; symbols = 0; rules = 0 }; rounds = 0 })
   pub B12 : pairQuery tableC 2 3 ≡ found false
   pub report-on-T : report tableT ≡ fourLines
 
@@ -147,7 +148,7 @@ module _ (table : List ℕ) (A : Automaton) (e : judge table ≡ found A) where
 
 pub bench : Bench
 unfolding reduce reductionRounds shortened numbered position restricted kept needed pruned dominated dominatedBy quotient firsts sameRule
-    sameStates renamed representative firstOf equivalent roundsIn below trimmed namesOnly productive buildable closure foundIn among answerFor
+    sameStates renamed representative firstOf equivalent roundsIn below trimmed namesOnly productive buildable closure foundIn among answerFor sizeOf
     relation relationAt rounds settle allPairs refine keep survives matched matchedBy paired related any from
     encode encodeRules encodeRule encodeRecord bytes2 bytes4 fields
     simulationOf roundsOf relationBytes relationRows rowBytes bitsFrom unmatchedNumbers unmatchedFirst NamesOne

@@ -9,7 +9,7 @@ use Rattle.lists.specs.Lists.{from}
 use Rattle.lists.specs.Over.{over}
 use Rattle.lists.proofs.Ranges.{length-from}
 use Rattle.lists.proofs.Overwriting.{over-behind}
-use Rattle.records.specs.Refusal.{numberOf}
+use Rattle.records.specs.Refusal.{numberOf, lastCause}
 use Rattle.records.specs.Read.{Read, found, refused}
 use Rattle.records.specs.declared.refusal.Refusal.{Refusal}
 use Rattle.records.specs.declared.refusal.Refusal.the-variants.{BrokenRecord, WrongKind, WrongLength, AboveLimit, OutOfRange}
@@ -32,7 +32,7 @@ use Rattle.reporting.proofs.Text.{Put, single-end, pair-end}
 
 -- A table that is refused.
 
-pub refusal-few : (cause : Refusal) → numberOf cause ≤ 13
+pub refusal-few : (cause : Refusal) → numberOf cause ≤ lastCause
 refusal-few BrokenRecord = omega arith
 refusal-few WrongKind = omega arith
 refusal-few WrongLength = omega arith

@@ -13,10 +13,5 @@ slice-aggregate-reduce c =
 pub again-spec : {M : Type 1} → statement M
 again-spec =
     tie.close
-    (tie.spec
-    (λ c. search needs)
-    (λ c κs. search needs)
-    (λ c. search needs)
-    slice-aggregate-reduce
-    (λ c κs. search needs)
+    (tie.spec (λ c. search needs) (λ c κs. search needs) (λ c. search needs) slice-aggregate-reduce (λ c κs. search needs)
     (λ c. search needs))

@@ -13,11 +13,5 @@ slice-aggregate-twice c =
 pub with-room-spec : {M : Type 1} → statement M
 with-room-spec =
     tie.close
-    (tie.spec
-    (λ c. search needs)
-    (λ c κs. search needs)
-    (λ c. search needs)
-    slice-aggregate-twice
-    (λ c κs. search needs)
-    (λ c κs. search needs)
-    (λ c. search needs))
+    (tie.spec (λ c. search needs) (λ c κs. search needs) (λ c. search needs) slice-aggregate-twice (λ c κs. search needs)
+    (λ c κs. search needs) (λ c. search needs))

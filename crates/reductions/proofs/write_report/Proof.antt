@@ -8,22 +8,16 @@ use borrow.Author.Needs.{needs}
 use Rattle.reductions.proofs.write_report.Tie as tie
 use Rattle.reductions.proofs.write_report.Statement.{statement}
 
-within : (c : tie.After-report) → c .report .result ≤ length (c .report .last .1 .0)
-within c =
+report-fits : (c : tie.After-report) → c .report .result ≤ length (c .report .last .1 .0)
+report-fits c =
     let e = c .report .ensures in
     omega (arith, e .0, simp length-append at (ap length (e .1)))
 
 slice-aggregate-write-word-2 : tie.Need-slice-aggregate-write-word-2
-slice-aggregate-write-word-2 c = sym (length-take-le _ (c .before .report .last .1 .0) (within (c .before)))
+slice-aggregate-write-word-2 c = sym (length-take-le _ (c .before .report .last .1 .0) (report-fits (c .before)))
 
 pub write-report-spec : {M : Type 1} → statement M
 write-report-spec =
     tie.close
-    (tie.spec
-    (λ c. search needs)
-    (λ c κs. search needs)
-    (λ c κs. search needs)
-    within
-    slice-aggregate-write-word-2
-    (λ c κs. search needs)
-    (λ c. search needs))
+    (tie.spec (λ c. search needs) (λ c κs. search needs) (λ c κs. search needs) report-fits slice-aggregate-write-word-2
+    (λ c κs. search needs) (λ c. search needs))

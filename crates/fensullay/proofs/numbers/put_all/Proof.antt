@@ -1,16 +1,21 @@
 -- The loop copies: after j turns the first j values are written.
-use Prim.Native.Nat.{_-_, _≤_}
+use Prim.Native.Nat.{ℕ, _+_, _-_, _≤_, _<_}
 use mathlib.Core.Path.{_≡_, refl, _∙_}
-use mathlib.Core.List.{[]}
+use mathlib.Core.List.{List, []}
+use native.Mathlib.Nat.{zero-add}
 use native.Mathlib.Omega.{arith}
-use lib.ListN.{length, length-set, take}
+use lib.ListN.{length, length-set, take, getD, set}
 use lib.Seq.{take-length}
 use borrow.Author.Needs.{needs}
 use Rattle.lists.specs.Over.{over}
-use Rattle.lists.proofs.Overwriting.{over-nil, over-behind}
+use Rattle.lists.proofs.Overwriting.{over-nil, over-behind, over-copy}
 use Rattle.fensullay.proofs.numbers.put_all.Tie as tie
-use Rattle.fensullay.proofs.Answering.{copied-next}
 use Rattle.fensullay.proofs.numbers.put_all.Statement.{statement}
+
+-- A turn of the loop.
+copied-next : (out src : List ℕ) (j : ℕ) → j < length src → j < length out
+    → set (over out 0 (take j src)) j (getD src j 0) ≡ over out 0 (take (j + 1) src)
+copied-next out src j h l = rw zero-add at (over-copy out 0 src j h (omega arith))
 
 abbrev Inv-loop : tie.InvT-loop
 Inv-loop numbers₀ values j₀ numbers j =

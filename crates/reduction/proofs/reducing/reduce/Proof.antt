@@ -2,10 +2,11 @@
 use borrow.Author.Needs.{needs}
 use denote.Ref.{now}
 use mathlib.Core.Path.{_≡_, refl, sym, ap, _∙_}
-use Prim.Native.Nat.{ℕ, _<_}
+use Prim.Native.Nat.{ℕ, _≤_, _<_}
 use native.Mathlib.Omega.{arith}
 use mathlib.Core.List.{List}
 use lib.ListN.{length, getD}
+use lib.Seq.{length-take-le}
 use Rattle.automaton.specs.Automaton.{Automaton}
 use Rattle.automaton.specs.Answers.{writingOf}
 use Rattle.automaton.specs.Decoded.{sizeOf, automatonIn}
@@ -20,8 +21,11 @@ use Rattle.reduction.proofs.Answers.{reduce-refused, reduce-short, redu
 use Rattle.reduction.proofs.Demand3.{promised}
 use Rattle.reduction.proofs.reducing.reduce.Statement.{statement}
 
+abbrev start : tie.After-decode → tie.Start
+start d = d .before .before .before .before .before
+
 -- The table's bytes are below 256.
-bytes-low : (d : tie.After-decode) → (i : ℕ) → getD (now (d .before .before .before .before .before .args .table)) i 0 < 256
+bytes-low : (d : tie.After-decode) → (i : ℕ) → getD (now (start d .args .table)) i 0 < 256
 bytes-low d i = omega (arith, d .before .before .before .before .shared-slice-known .given i)
 
 decode-requires : tie.Need-decode-requires
@@ -37,15 +41,13 @@ returns c =
     (reduce-refused _ _ _ (refused-judged _ (d .result) _ _ _ (d .ensures) (c .before .judged .given .1)))
 
 -- The table is not refused: what its arrays hold, before the steps and after them.
-abbrev start : tie.After-known-told2 → tie.Start
-start t = t .before .before .before .before .before .before .before .before .before .before .before
+abbrev decoded : tie.After-known-told2 → tie.After-decode
+decoded t = t .before .before .before .before .before .before
 
 held : (t : tie.After-known-told2) →
-    let d = t .before .before .before .before .before .before .decode in
-    Held (now (start t .args .table)) (t .before .judged2 .given .0 .0) (d .result .finals .words) (d .last .1 .0) (d .last .1 .1 .0)
-held t =
-    let d = t .before .before .before .before .before .before .decode in
-    decoded-held _ (d .result) _ _ _ (d .ensures) (t .before .judged2 .given .1)
+    let d = decoded t .decode in
+    Held (now (start (decoded t) .args .table)) (t .before .judged2 .given .0 .0) (d .result .finals .words) (d .last .1 .0) (d .last .1 .1 .0)
+held t = let d = decoded t .decode in decoded-held _ (d .result) _ _ _ (d .ensures) (t .before .judged2 .given .1)
 
 reduce-rows-requires : tie.Need-reduce-rows-requires
 reduce-rows-requires c κs =
@@ -55,21 +57,25 @@ reduce-rows-requires c κs =
 abbrev at-table : tie.After-reduce-rows → tie.After-known-told2
 at-table r = r .before .before
 
+abbrev ranks : tie.After-reduce-rows → List ℕ
+ranks r = decoded (at-table r) .decode .last .1 .0
+
 abbrev left : tie.After-reduce-rows → Automaton
-left r =
-    automatonIn (r .reduce-rows .result .size) (r .reduce-rows .result .finals .words)
-    (at-table r .before .before .before .before .before .before .decode .last .1 .0) (r .reduce-rows .last .1 .1 .0)
+left r = automatonIn (r .reduce-rows .result .size) (r .reduce-rows .result .finals .words) (ranks r) (r .reduce-rows .last .1 .1 .0)
 
 left-reduced : (r : tie.After-reduce-rows) → left r ≡ reduce (held (at-table r) .automaton)
 left-reduced r =
     let h = held (at-table r) in
     r .reduce-rows .ensures .0 _ (held-well-formed h) .0 ∙ ap reduce (h .holds)
 
+left-ranks : (r : tie.After-reduce-rows) → r .reduce-rows .result .size .symbols ≤ length (ranks r)
+left-ranks r = omega (arith, r .reduce-rows .ensures .1 .1, held-ranks (held (at-table r)))
+
 write-requires : tie.Need-write-requires
 write-requires c κs =
     let r = c .before .before .before .before .before .before in
     let h = held (at-table r) in (
-      rw (r .reduce-rows .ensures .1 .1) (held-ranks h),
+      left-ranks r,
       (r .reduce-rows .ensures .1 .0, rw (left-reduced r) (reduce-well-formed (h .automaton) (h .well-formed))),
     )
 
@@ -82,28 +88,23 @@ returns-2 c =
     let w = c .before .before .before .before .before in
     let r = reduced w in
     let h = held (at-table r) in
-    promised _ _ _ _ (bytes-low (at-table r .before .before .before .before .before .before))
+    promised _ _ _ _ (bytes-low (decoded (at-table r)))
     (reduce-short _ _ _ (h .automaton) (left r) (h .judged) (left-reduced r) (w .write .ensures .1) _
     (ap writingOf (sym (c .before .cause .given .1)) ∙ w .write .ensures .0))
 
-states-counted : (size : Size) (finals ranks rows : List ℕ) → size .states ≡ automatonIn size finals ranks rows .states
-unfolding automatonIn
-states-counted size finals ranks rows = refl
-
-rules-counted : (size : Size) (finals ranks rows : List ℕ) → size .rules ≡ length (automatonIn size finals ranks rows .rules)
-unfolding automatonIn
-rules-counted size finals ranks rows = sym (rules-length rows (size .rules))
+counts-held : (size : Size) (finals ranks rows : List ℕ) → size .symbols ≤ length ranks → size ≡ sizeOf (automatonIn size finals ranks rows)
+unfolding automatonIn sizeOf
+counts-held size finals ranks rows h = rw (length-take-le (size .symbols) ranks h, rules-length)
 
 returns-3 : tie.Need-returns-3
-unfolding writingOf sizeOf
+unfolding writingOf
 returns-3 c =
     let w = c .before .before .before .before .before in
     let r = reduced w in
     let h = held (at-table r) in
-    promised _ _ _ _ (bytes-low (at-table r .before .before .before .before .before .before))
+    promised _ _ _ _ (bytes-low (decoded (at-table r)))
     (reduce-written _ _ _ (h .automaton) (left r) (h .judged) (left-reduced r) (w .write .ensures .1) _
-    (ap writingOf (sym (c .before .length .given .1)) ∙ w .write .ensures .0) (ap (λ (s : Size). s .states) (h .counts))
-    (states-counted _ _ _ _) (ap (λ (s : Size). s .rules) (h .counts)) (rules-counted _ _ _ _)
+    (ap writingOf (sym (c .before .length .given .1)) ∙ w .write .ensures .0) (h .counts) (counts-held _ _ _ _ (left-ranks r))
     (r .reduce-rows .ensures .0 _ (held-well-formed h) .1 ∙ ap reductionRounds (h .holds)))
 
 pub reduce-spec : {M : Type 1} → statement M
