@@ -7,3 +7,4 @@ pub mod Ranges
 pub mod Overwriting
 pub mod Rising
 pub mod Search
+pub mod Dominance

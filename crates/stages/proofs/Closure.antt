@@ -1,13 +1,15 @@
--- A closure is the least set of the states that its test does not enlarge: each time keeps more of the same list, so it ends in time.
+-- A closure is the least set of the states that its test does not enlarge: each time keeps more of the same list, so it ends in time. From
+-- what a weaker test keeps (`Dominance`); for steps 1 and 5 (`Trimming`, `Restricting`) and the code that finds these states.
 use Prim.Native.Nat.{ℕ, zero, suc, _≤_, _<_}
 use native.Mathlib.Omega.{arith}
 use mathlib.Core.Path.{_≡_, refl, ap}
 use mathlib.Core.Logic.{_⊎_, inl, inr}
-use mathlib.Core.List.{List, [], _∷_, List·Memᴰ, List·Memᴰ·head, List·Memᴰ·tail, List·Memᴰ·not-nil}
-use mathlib.Core.Bool.{Bool, true, false, cond, false≢true}
+use mathlib.Core.List.{List, [], _∷_, List·Memᴰ, List·Memᴰ·not-nil}
+use mathlib.Core.Bool.{Bool, true}
 use lib.ListN.{length}
 use Rattle.lists.specs.Lists.{Rising, empty, keep}
 use Rattle.lists.proofs.Keeping.{keep-in, keep-out, keep-shorter}
+use Rattle.lists.proofs.Dominance.{keep-grows}
 use Rattle.lists.proofs.Rising.{rising-keep}
 use Rattle.stages.specs.Steps.{foundIn, closure}
 
@@ -15,24 +17,6 @@ use Rattle.stages.specs.Steps.{foundIn, closure}
 unfoldable pub Monotone : (List ℕ → ℕ → Bool) → Type 0
 Monotone test =
     (xs ys : List ℕ) → ((p : ℕ) → List·Memᴰ p xs → List·Memᴰ p ys) → (q : ℕ) → test xs q ≡ true → test ys q ≡ true
-
--- What a weaker test keeps is the same or longer.
-keep-grows : {A : Type 0} (f g : A → Bool) (xs : List A) → ((x : A) → List·Memᴰ x xs → f x ≡ true → g x ≡ true)
-    → (keep g xs ≡ keep f xs) ⊎ (length (keep f xs) < length (keep g xs))
-unfolding keep
-keep-grows f g [] h = inl refl
-keep-grows {A} f g (x ∷ xs) h =
-    go (f x) (g x) (h x (List·Memᴰ·head refl)) (keep-grows f g xs (λ y m. h y (List·Memᴰ·tail m)))
-  where
-    go : (s t : Bool) → (s ≡ true → t ≡ true) → (keep g xs ≡ keep f xs) ⊎ (length (keep f xs) < length (keep g xs))
-        → (cond t (x ∷ keep g xs) (keep g xs) ≡ cond s (x ∷ keep f xs) (keep f xs))
-        ⊎ (length (cond s (x ∷ keep f xs) (keep f xs)) < length (cond t (x ∷ keep g xs) (keep g xs)))
-    go true true i (inl e) = inl (ap (λ (ys : List A). x ∷ ys) e)
-    go true true i (inr l) = inr (omega arith)
-    go true false i r = absurd (false≢true (i refl))
-    go false true i (inl e) = inr (omega (arith, ap length e))
-    go false true i (inr l) = inr (omega arith)
-    go false false i r = r
 
 module _ (test : List ℕ → ℕ → Bool) (states : List ℕ) where
   found-least : (P : ℕ → Type 0)

@@ -1,4 +1,5 @@
--- Of equal rules the first stays: no rule is lost, none stands twice, and a list without equal rules stays as it is.
+-- Of equal rules the first stays: no rule is lost, none stands twice, a list without equal rules stays as it is, and the first ones are told
+-- by their places. For `Quotient`, `Fixpoint`, `Sizes` and the code that marks the first rules.
 use Prim.Native.Nat.{ℕ, zero, suc}
 use native.Mathlib.Nat.{zero-add}
 use native.Mathlib.Numerals.{add-one}
@@ -7,6 +8,7 @@ use mathlib.Core.List.{List, [], _∷_, map, List·Memᴰ, List·Memᴰ·head, L
 use mathlib.Core.Bool.{Bool, true, false, cond, not, _&&_, _||_, false≢true}
 use Rattle.lists.specs.Lists.{Distinct, bare, new, from, keep, any}
 use Rattle.lists.proofs.Keeping.{keep-both, keep-agree, keep-all, keep-in, keep-out}
+use Rattle.lists.proofs.Booleans.{not-in}
 use Rattle.lists.proofs.Distinctness.{keep-distinct}
 use Rattle.lists.proofs.Ranges.{from-step}
 use Rattle.lists.proofs.Search.{any-append}
@@ -47,11 +49,7 @@ unfolding firsts
 firsts-same [] d = refl
 firsts-same (u ∷ us) (new h d) =
     ap (λ (vs : List Rule). u ∷ vs)
-    (rw (firsts-same us d) (keep-all (differs u) us (λ v m. go v m (sameRule u v) refl)))
-  where
-    go : (v : Rule) → List·Memᴰ v us → (t : Bool) → sameRule u v ≡ t → not t ≡ true
-    go v m true e = absurd (h (Memᴰ·cast (same-rule-out u v e) m))
-    go v m false e = refl
+    (rw (firsts-same us d) (keep-all (differs u) us (λ v m. not-in (λ e. h (Memᴰ·cast (same-rule-out u v e) m)))))
 
 -- The first ones by their places: those that no element before them is equal to.
 

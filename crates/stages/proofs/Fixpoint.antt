@@ -1,55 +1,42 @@
--- An irreducible automaton is its own reduction: each step finds every state and rule in order and leaves it where it is.
-use Prim.Native.Nat.{ℕ, zero, suc, _+_, _<_}
+-- An irreducible automaton is its own reduction: each step finds every state and rule in order and leaves it where it is. From the steps'
+-- own laws; for demand 3, where a reduced table is reduced again.
+use Prim.Native.Nat.{ℕ, zero, suc, _+_, _≤_, _<_}
+use native.Mathlib.Decide.{ℕ-discrete}
 use native.Mathlib.Omega.{arith}
-use mathlib.Core.Path.{_≡_, refl, sym, ap, ap₂, _∙_}
+use mathlib.Core.Path.{_≡_, refl, sym, ap, _∙_}
 use mathlib.Core.Logic.{inl, inr}
-use mathlib.Core.List.{List, [], _∷_, map, List·Memᴰ, List·Memᴰ·head, List·Memᴰ·tail, Memᴰ·cast}
+use mathlib.Core.List.{List, map, List·Memᴰ, List·Memᴰ·head, List·Memᴰ·tail, Memᴰ·cast}
 use mathlib.Core.Bool.{not}
-use lib.ListN.{getD}
 use lib.Dec.{eqb}
-use borrow.Author.Tests.{eq-eqb}
+use borrow.Author.Tests.{eq-eqb, ne-eqb}
 use Rattle.lists.specs.Lists.{Rising, from, among}
 use Rattle.lists.proofs.Keeping.{keep-all}
-use Rattle.lists.proofs.Ranges.{from-rising, length-from, from-member, member-from}
-use Rattle.lists.proofs.Elements.{all-member}
+use Rattle.lists.proofs.Ranges.{from-rising, length-from, member-from}
 use Rattle.lists.proofs.Booleans.{and-true-in}
 use Rattle.lists.proofs.Search.{all-in, among-in}
 use Rattle.lists.proofs.Rising.{rising-same}
-use Rattle.automaton.specs.Automaton.{Rule, renamed, Automaton, WellFormed, WellFormedRule}
-use Rattle.trees.specs.Run.{Run, Runs, at, none, also, root, roots, treeOf, IsRun, AreRuns, Occurs, OccursIn, Useful}
+use Rattle.automaton.specs.Automaton.{Rule, renamed, Automaton, WellFormed}
+use Rattle.trees.specs.Run.{Run, Runs, at, none, also, root, roots, IsRun, AreRuns, Occurs, OccursIn, Useful}
 use Rattle.refinement.specs.Simulation.{Relation}
+use Rattle.refinement.proofs.Maximality.{Closed}
 use Rattle.simulation.specs.Query.{simulationOf}
-use Rattle.stages.specs.Steps.{Stage, buildable, productive, namesOnly, trimmed, below, representative, firsts, quotient, dominated}
+use Rattle.stages.specs.Steps.{buildable, productive, namesOnly, trimmed, below, representative, firsts, quotient, dominated}
 use Rattle.stages.specs.Steps.{pruned, kept, restricted, position, numbered, shortened, reduce}
 use Rattle.stages.specs.Irreducible.{Irreducible}
 use Rattle.stages.specs.Inner.{Sound}
+use Rattle.stages.proofs.Carrying.{whole, whole-sound}
 use Rattle.stages.proofs.Closure.{closure-states}
-use Rattle.stages.proofs.Trimming.{reached-productive, trimmed-sound}
+use Rattle.stages.proofs.Trimming.{occurs-productive, trimmed-sound}
 use Rattle.stages.proofs.Firsts.{firsts-same}
 use Rattle.stages.proofs.Quotient.{representative-below, below-representative, quotient-sound, final-representative}
 use Rattle.stages.proofs.Quotient.{representative-final}
+use Rattle.stages.proofs.Numbering.{map-fixed}
 use Rattle.stages.proofs.Restricting.{kept-states, finals-kept, children-kept, restricted-sound}
-use Rattle.stages.proofs.Numbering.{position-low, position-back}
 
--- The states of a run: each ends a run of its own, and each is reached from the root by rules.
-
-module _ (rules : List Rule) (states : List ℕ) (rooted : (r : Run) → IsRun rules r → List·Memᴰ (root r) states) where
+-- The states of a run are reached from the root by rules.
+module _ (rules : List Rule) (states : List ℕ) (closed : Closed rules states) where
   mutual
-    unfolding IsRun Occurs root
-
-    occurs-rooted : (r : Run) → IsRun rules r → (p : ℕ) → Occurs p r → List·Memᴰ p states
-    occurs-rooted (at q f rs) h p (inl e) = Memᴰ·cast e (rooted (at q f rs) h)
-    occurs-rooted (at q f rs) h p (inr o) = occurs-in-rooted rs (h .1) p o
-
-    occurs-in-rooted : (rs : Runs) → AreRuns rules rs → (p : ℕ) → OccursIn p rs → List·Memᴰ p states
-    occurs-in-rooted none h p o = absurd o
-    occurs-in-rooted (also r rs) h p (inl o) = occurs-rooted r (h .0) p o
-    occurs-in-rooted (also r rs) h p (inr o) = occurs-in-rooted rs (h .1) p o
-
-module _ (rules : List Rule) (states : List ℕ) (closed : (u : Rule) → List·Memᴰ u rules → List·Memᴰ (u .target) states
-    → (q : ℕ) → List·Memᴰ q (u .children) → List·Memᴰ q states) where
-  mutual
-    unfolding IsRun Occurs root roots
+    unfolding Closed IsRun Occurs root roots
 
     occurs-closed : (r : Run) → IsRun rules r → List·Memᴰ (root r) states → (p : ℕ) → Occurs p r → List·Memᴰ p states
     occurs-closed (at q f rs) h m p (inl e) = Memᴰ·cast e m
@@ -63,57 +50,38 @@ module _ (rules : List Rule) (states : List ℕ) (closed : (u : Rule) → List·
     occurs-in-closed (also r rs) h m p (inl o) = occurs-closed r (h .0) (m (root r) (List·Memᴰ·head refl)) p o
     occurs-in-closed (also r rs) h m p (inr o) = occurs-in-closed rs (h .1) (λ q n. m q (List·Memᴰ·tail n)) p o
 
--- Renaming that changes nothing.
-
-map-same : {A : Type 0} (f : A → A) (xs : List A) → ((x : A) → List·Memᴰ x xs → f x ≡ x) → map f xs ≡ xs
-map-same f [] h = refl
-map-same f (x ∷ xs) h = ap₂ _∷_ (h x (List·Memᴰ·head refl)) (map-same f xs (λ y m. h y (List·Memᴰ·tail m)))
-
-getD-from : (n i j : ℕ) → j < n → getD (from i n) j 0 ≡ i + j
-unfolding from
-getD-from zero i j h = absurd (omega arith)
-getD-from (suc n) i zero h = omega arith
-getD-from (suc n) i (suc j) h = omega (arith, getD-from n (suc i) j (omega arith))
-
-position-from : (n q : ℕ) → q < n → position (from 0 n) q ≡ q
-position-from n q h =
-    let m = from-member n 0 q (omega arith) (omega arith) in
-    let low = position-low (from 0 n) (from-rising 0 n) q m in
-    let inside : position (from 0 n) q < n = omega (arith, length-from 0 n) in
-    omega (arith, position-back (from 0 n) (from-rising 0 n) q m, getD-from n 0 (position (from 0 n) q) inside)
-
--- The stage of all states.
-abbrev whole : Automaton → Stage
-whole B = record { states = from 0 (B .states); finals = B .finals; rules = B .rules }
+position-from : (n i q : ℕ) → i ≤ q → q < i + n → i + position (from i n) q ≡ q
+unfolding from position
+position-from zero i q l h = absurd (omega arith)
+position-from (suc n) i q l h =
+    elim (ℕ-discrete q i) [
+      | yes e ↦ rw (eq-eqb i q (sym e)) (omega arith)
+      | no d ↦ rw (ne-eqb i q (λ e. d (sym e))) (omega (arith, position-from n (suc i) q (omega arith) (omega arith)))
+    ]
 
 module _ (B : Automaton) (w : WellFormed B) where
-  states-in : (q : ℕ) → q < B .states → List·Memᴰ q (from 0 (B .states))
-  states-in q h = from-member (B .states) 0 q (omega arith) (omega arith)
+  sound : Sound (whole B)
+  sound = whole-sound B w
 
-  rule-formed : (u : Rule) → List·Memᴰ u (B .rules) → WellFormedRule B u
-  rule-formed u m = all-member (w .rules) m
-
-  child-low : (u : Rule) → List·Memᴰ u (B .rules) → (q : ℕ) → List·Memᴰ q (u .children) → q < B .states
-  child-low u m q n = all-member (rule-formed u m .children) n
-
-  renamed-same : (name : ℕ → ℕ) → ((q : ℕ) → q < B .states → name q ≡ q) → map (renamed name) (B .rules) ≡ B .rules
+  renamed-fixed : (name : ℕ → ℕ) → ((q : ℕ) → List·Memᴰ q (from 0 (B .states)) → name q ≡ q) → map (renamed name) (B .rules) ≡ B .rules
   unfolding renamed
-  renamed-same name h =
-      map-same (renamed name) (B .rules) (λ u m i. record {
+  renamed-fixed name h =
+      map-fixed (renamed name) (B .rules) (λ u m i. record {
         symbol = u .symbol;
-        target = h (u .target) (rule-formed u m .target) i;
-        children = map-same name (u .children) (λ q n. h q (child-low u m q n)) i;
+        target = h (u .target) (sound .targets u m) i;
+        children = map-fixed name (u .children) (λ q n. h q (sound .children u m q n)) i;
       })
 
   numbered-same : numbered (B .ranks) (whole B) ≡ B
   unfolding numbered
   numbered-same =
-      let own = position-from (B .states) in
+      let own : (q : ℕ) → List·Memᴰ q (from 0 (B .states)) → position (from 0 (B .states)) q ≡ q =
+      λ q m. let (l, h) = member-from (B .states) 0 q m in omega (arith, position-from (B .states) 0 q l h) in
       λ i. record {
         states = length-from 0 (B .states) i;
         ranks = B .ranks;
-        finals = map-same (position (from 0 (B .states))) (B .finals) (λ q m. own q (all-member (w .finals) m)) i;
-        rules = renamed-same (position (from 0 (B .states))) own i;
+        finals = map-fixed (position (from 0 (B .states))) (B .finals) (λ q m. own q (sound .finals q m)) i;
+        rules = renamed-fixed (position (from 0 (B .states))) own i;
       }
 
   module _ (irreducible : Irreducible B) where
@@ -127,9 +95,7 @@ module _ (B : Automaton) (w : WellFormed B) where
     unfolding productive trimmed
     productive-same =
         every-state (trimmed-sound B w .rising) (closure-states (buildable (B .rules)) (from 0 (B .states)))
-        (λ q u. occurs-rooted (B .rules) (productive B)
-        (λ r h. reached-productive B w (treeOf r) (root r) (record { run = r; over = refl; ends = refl; is-run = h }))
-        (u .run) (u .is-run) q (u .occurs))
+        (λ q u. occurs-productive B w (u .run) (u .is-run) q (u .occurs))
 
     trimmed-same : trimmed B ≡ whole B
     unfolding trimmed namesOnly
@@ -137,14 +103,10 @@ module _ (B : Automaton) (w : WellFormed B) where
         let all : List ℕ = from 0 (B .states) in
         rw productive-same (λ i. record {
           states = all;
-          finals = keep-all (among all) (B .finals) (λ q m. among-in (states-in q (all-member (w .finals) m))) i;
-          rules = keep-all (namesOnly all) (B .rules) (λ u m. and-true-in
-              (among-in (states-in (u .target) (rule-formed u m .target)))
-              (all-in (among all) (u .children) (λ q n. among-in (states-in q (child-low u m q n))))) i;
+          finals = keep-all (among all) (B .finals) (λ q m. among-in (sound .finals q m)) i;
+          rules = keep-all (namesOnly all) (B .rules) (λ u m. and-true-in (among-in (sound .targets u m))
+              (all-in (among all) (u .children) (λ q n. among-in (sound .children u m q n)))) i;
         })
-
-    whole-sound : Sound (whole B)
-    whole-sound = rw trimmed-same at (trimmed-sound B w)
 
     abbrev R : Relation
     R = below (whole B)
@@ -152,28 +114,27 @@ module _ (B : Automaton) (w : WellFormed B) where
     representative-same : (q : ℕ) → List·Memᴰ q (from 0 (B .states)) → representative R (from 0 (B .states)) q ≡ q
     unfolding below simulationOf
     representative-same q m =
-        irreducible .antisymmetric _ q (representative-below (whole B) whole-sound q m) (below-representative (whole B) whole-sound q m)
+        irreducible .antisymmetric _ q (representative-below (whole B) sound q m) (below-representative (whole B) sound q m)
 
     quotient-same : quotient R (whole B) ≡ whole B
     unfolding quotient
     quotient-same =
         let all : List ℕ = from 0 (B .states) in
-        let sound = quotient-sound (whole B) whole-sound in
         λ i. record {
           states = keep-all (λ (q : ℕ). eqb (representative R all q) q) all (λ q m. eq-eqb _ q (representative-same q m)) i;
-          finals = rising-same (quotient R (whole B) .finals) (B .finals) (sound .finals-rising) (w .rising) final-out final-in i;
-          rules = (ap firsts (renamed-same (representative R all) (λ q l. representative-same q (states-in q l)))
+          finals = rising-same (quotient R (whole B) .finals) (B .finals) (quotient-sound (whole B) sound .finals-rising) (w .rising) final-out final-in i;
+          rules = (ap firsts (renamed-fixed (representative R all) representative-same)
               ∙ firsts-same (B .rules) (irreducible .distinct)) i;
         }
       where
         final-in : (q : ℕ) → List·Memᴰ q (B .finals) → List·Memᴰ q (quotient R (whole B) .finals)
         final-in q m =
-            Memᴰ·cast (sym (representative-same q (whole-sound .finals q m))) (final-representative (whole B) whole-sound q m)
+            Memᴰ·cast (sym (representative-same q (sound .finals q m))) (final-representative (whole B) sound q m)
 
         final-out : (q : ℕ) → List·Memᴰ q (quotient R (whole B) .finals) → List·Memᴰ q (B .finals)
         final-out q m =
-            let (f, n, e) = representative-final (whole B) whole-sound q m in
-            Memᴰ·cast (sym e ∙ representative-same f (whole-sound .finals f n)) n
+            let (f, n, e) = representative-final (whole B) sound q m in
+            Memᴰ·cast (sym e ∙ representative-same f (sound .finals f n)) n
 
     pruned-same : pruned R (whole B) ≡ whole B
     unfolding pruned below simulationOf
@@ -184,11 +145,11 @@ module _ (B : Automaton) (w : WellFormed B) where
     }
 
     kept-same : kept (whole B) ≡ from 0 (B .states)
-    unfolding restricted
+    unfolding Closed restricted
     kept-same =
-        every-state (restricted-sound (whole B) whole-sound .rising) (kept-states (whole B) whole-sound)
-        (λ q u. occurs-closed (B .rules) (kept (whole B)) (children-kept (whole B) whole-sound) (u .run) (u .is-run)
-        (finals-kept (whole B) whole-sound (root (u .run)) (u .final)) q (u .occurs))
+        every-state (restricted-sound (whole B) sound .rising) (kept-states (whole B) sound)
+        (λ q u. occurs-closed (B .rules) (kept (whole B)) (children-kept (whole B) sound) (u .run) (u .is-run)
+        (finals-kept (whole B) sound (root (u .run)) (u .final)) q (u .occurs))
 
     restricted-same : restricted (whole B) ≡ whole B
     unfolding restricted
@@ -197,7 +158,7 @@ module _ (B : Automaton) (w : WellFormed B) where
           states = from 0 (B .states);
           finals = B .finals;
           rules = keep-all (λ (u : Rule). among (from 0 (B .states)) (u .target)) (B .rules)
-              (λ u m. among-in (whole-sound .targets u m)) i;
+              (λ u m. among-in (sound .targets u m)) i;
         })
 
     pub irreducible-fixed : reduce B ≡ B

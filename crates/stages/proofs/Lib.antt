@@ -1,3 +1,4 @@
+pub mod Carrying
 pub mod SameRules
 pub mod Firsts
 pub mod Quotient
@@ -11,3 +12,4 @@ pub mod Sizes
 pub mod Usefulness
 pub mod Agreement
 pub mod Fixpoint
+pub mod Examples

@@ -1,5 +1,6 @@
--- The kept states are the least set that has the final states and the children of each rule whose target it has; so restricting loses
--- no run that ends in one of them.
+-- Step 5: the kept states are the least set that has the final states and the children of each rule whose target it has; so a stage carries
+-- over to its restricted stage, where a kept state goes into itself and back. From the laws of closures; for `Agreement`, `Fixpoint`, and the
+-- code that finds the kept states.
 use Prim.Native.Nat.{ℕ}
 use mathlib.Core.Path.{_≡_, refl, _∙_}
 use mathlib.Core.Logic.{_⊎_, inl, inr}
@@ -15,8 +16,8 @@ use Rattle.refinement.specs.Simulation.{Simulates}
 use Rattle.refinement.proofs.Simulations.{each-refl}
 use Rattle.stages.specs.Steps.{Stage, needed, kept, restricted}
 use Rattle.stages.specs.Inner.{Sound}
+use Rattle.stages.proofs.Carrying.{Carries, Connected, part-simulates}
 use Rattle.stages.proofs.Closure.{Monotone, closure-least, closure-states, closure-rising, closure-closed}
-use Rattle.stages.proofs.Trimming.{part-simulates}
 
 -- A rule whose target was found before and that has q among its children.
 pub record Asked (S : Stage) (earlier : List ℕ) (q : ℕ) : Type 0 where
@@ -66,6 +67,12 @@ module _ (S : Stage) where
           needed-child ys q
           (record { rule = a .rule; is-rule = a .is-rule; target = more (a .rule .target) (a .target); child = a .child })
 
+  pub restricted-rule : (u : Rule) → List·Memᴰ u (restricted S .rules) → List·Memᴰ u (S .rules) × List·Memᴰ (u .target) (kept S)
+  unfolding restricted
+  restricted-rule u m =
+      let k = keep-out (λ (v : Rule). among (kept S) (v .target)) (S .rules) m in
+      (k .0, among-out (kept S) (u .target) (k .1))
+
 module _ (S : Stage) (sound : Sound S) where
   pub kept-states : (q : ℕ) → List·Memᴰ q (kept S) → List·Memᴰ q (S .states)
   unfolding kept
@@ -102,12 +109,6 @@ module _ (S : Stage) (sound : Sound S) where
           let t = h (a .rule .target) (a .target) in
           (children-kept (a .rule) (a .is-rule) (t .0) p (a .child), child (a .rule) (a .is-rule) (t .0) (t .1) p (a .child))
 
-  restricted-out : (u : Rule) → List·Memᴰ u (restricted S .rules) → List·Memᴰ u (S .rules) × List·Memᴰ (u .target) (kept S)
-  unfolding restricted
-  restricted-out u m =
-      let k = keep-out (λ (v : Rule). among (kept S) (v .target)) (S .rules) m in
-      (k .0, among-out (kept S) (u .target) (k .1))
-
   pub restricted-sound : Sound (restricted S)
   unfolding restricted kept
   restricted-sound =
@@ -116,21 +117,43 @@ module _ (S : Stage) (sound : Sound S) where
         low = member-all (kept S) (λ q m. all-member (sound .low) (kept-states q m));
         finals-rising = sound .finals-rising;
         finals = finals-kept;
-        targets = λ u m. restricted-out u m .1;
-        children = λ u m. let k = restricted-out u m in children-kept u (k .0) (k .1);
+        targets = λ u m. restricted-rule S u m .1;
+        children = λ u m. let k = restricted-rule S u m in children-kept u (k .0) (k .1);
       }
 
-  pub into-restricted : Simulates (S .rules) (restricted S .rules) (λ (q r : ℕ). (q ≡ r) × List·Memᴰ q (kept S))
-  unfolding Simulates restricted
+  rule-restricted : (u : Rule) → List·Memᴰ u (S .rules) → List·Memᴰ (u .target) (kept S) → List·Memᴰ u (restricted S .rules)
+  unfolding restricted
+  rule-restricted u m t = keep-in (λ (v : Rule). among (kept S) (v .target)) m (among-in t)
+
+  -- Each kept state is final or under a final one by rules that stay.
+  pub restricted-connected : Connected (restricted S)
+  unfolding Connected restricted
+  restricted-connected P final child = kept-least P final (λ u m t. child u (rule-restricted u m t))
+
+  into-restricted : Simulates (S .rules) (restricted S .rules) (λ (q r : ℕ). (q ≡ r) × List·Memᴰ q (kept S))
+  unfolding Simulates
   into-restricted q r d u m e =
       let t : List·Memᴰ (u .target) (kept S) = Memᴰ·cast e (d .1) in
       record {
         rule = u;
-        is-rule = keep-in (λ (v : Rule). among (kept S) (v .target)) m (among-in t);
+        is-rule = rule-restricted u m t;
         target = e ∙ d .0;
         symbol = refl;
         children = each-refl (λ p n. (refl, children-kept u m t p n));
       }
 
-  pub from-restricted : Simulates (restricted S .rules) (S .rules) (λ (q r : ℕ). q ≡ r)
-  from-restricted = part-simulates (restricted S .rules) (S .rules) (λ u m. restricted-out u m .0)
+  pub restricted-carries : Carries (λ (q : ℕ). q) S (restricted S)
+  unfolding restricted
+  restricted-carries =
+      record {
+        into = λ q r. (q ≡ r) × List·Memᴰ q (kept S);
+        back = λ q r. q ≡ r;
+        into-simulates = into-restricted;
+        back-simulates = part-simulates (restricted S .rules) (S .rules) (λ u m. restricted-rule S u m .0);
+        final-into = λ q m. (q, m, (refl, finals-kept q m));
+        final-back = λ q m. (q, m, refl);
+        origin-state = kept-states;
+        origin-into = λ q m. (refl, m);
+        origin-back = λ q m. refl;
+        origin-injective = λ q r m n e. e;
+      }

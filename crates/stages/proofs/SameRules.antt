@@ -1,4 +1,4 @@
--- Equal lists of states and equal rules, as facts.
+-- The tests for equal lists of states and equal rules, as facts. For `Firsts`, `Pruning` and the code that marks rules.
 use Prim.Native.Nat.{ℕ}
 use mathlib.Core.Path.{_≡_, refl, ap₂}
 use mathlib.Core.List.{List, [], _∷_}
@@ -8,10 +8,6 @@ use borrow.Author.Tests.{eq-eqb, eqb-true}
 use Rattle.lists.proofs.Booleans.{and-true-in, and-true-out}
 use Rattle.automaton.specs.Automaton.{Rule}
 use Rattle.stages.specs.Steps.{sameStates, sameRule}
-
--- States among others.
-
--- Equal lists of states, equal rules.
 
 pub same-states-out : (qs rs : List ℕ) → sameStates qs rs ≡ true → qs ≡ rs
 unfolding sameStates
@@ -35,13 +31,10 @@ same-rule-out u v h =
     let s : u .symbol ≡ v .symbol = eqb-true (u .symbol) (v .symbol) (a .0) in
     let t : u .target ≡ v .target = eqb-true (u .target) (v .target) (b .0) in
     let c : u .children ≡ v .children = same-states-out (u .children) (v .children) (b .1) in
-    let e : _≡_ {A = Rule} (record { symbol = u .symbol; target = u .target; children = u .children })
-    (record { symbol = v .symbol; target = v .target; children = v .children }) = rw (s, t, c) in e
+    λ i. record { symbol = s i; target = t i; children = c i }
 
 pub same-rule-refl : (u : Rule) → sameRule u u ≡ true
 unfolding sameRule
 same-rule-refl u =
     and-true-in (eq-eqb (u .symbol) (u .symbol) refl)
     (and-true-in (eq-eqb (u .target) (u .target) refl) (same-states-refl (u .children)))
-
--- Rising lists.

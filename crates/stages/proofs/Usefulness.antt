@@ -1,4 +1,5 @@
--- Runs put together: a run in the place of a node of another, and a state under the target of a rule takes part where the target does.
+-- Runs put together: a run by a rule, a run in the place of a node of another; and a state under the target of a rule takes part in an
+-- accepted tree where the target does. For `Trimming` and `Agreement`.
 use Prim.Native.Nat.{ℕ, suc}
 use mathlib.Core.Path.{_≡_, refl, sym, ap, ap₂, _∙_}
 use mathlib.Core.Logic.{inl, inr}
@@ -32,79 +33,58 @@ module _ (A : Automaton) (w : WellFormed A) where
     runs-over none h = tt
     runs-over (also r rs) h = (run-over r (h .0), runs-over rs (h .1))
 
--- A run σ in the place of a node of ρ that has σ's root.
-record Grafted (rules : List Rule) (σ ρ : Run) : Type 0 where
-  run : Run
-  is-run : IsRun rules run
-  ends : root run ≡ root ρ
-  occurs : (p : ℕ) → Occurs p σ → Occurs p run
-
-record GraftedIn (rules : List Rule) (σ : Run) (ρs : Runs) : Type 0 where
-  runs : Runs
-  are-runs : AreRuns rules runs
-  ends : roots runs ≡ roots ρs
-  occurs : (p : ℕ) → Occurs p σ → OccursIn p runs
-
+-- A run σ in the place of a node of another that has σ's root: the root stays, and what occurs in σ occurs.
 module _ (rules : List Rule) (σ : Run) (is-run : IsRun rules σ) where
   mutual
     unfolding IsRun AreRuns Occurs OccursIn root roots
 
-    graft : (ρ : Run) → IsRun rules ρ → Occurs (root σ) ρ → Grafted rules σ ρ
-    graft (at q f rs) h (inl e) = record { run = σ; is-run = is-run; ends = e; occurs = λ p o. o }
+    graft : (ρ : Run) → IsRun rules ρ → Occurs (root σ) ρ
+        → (r : Run) × IsRun rules r × (root r ≡ root ρ) × ((p : ℕ) → Occurs p σ → Occurs p r)
+    graft (at q f rs) h (inl e) = (σ, is-run, e, λ p o. o)
     graft (at q f rs) h (inr o) =
-        let g = graft-in rs (h .1) o in
-        record {
-          run = at q f (g .runs);
-          is-run = (rw (g .ends) (h .0), g .are-runs);
-          ends = refl;
-          occurs = λ p i. inr (g .occurs p i);
-        }
+        let (ss, are-runs, ends, occurs) = graft-in rs (h .1) o in
+        (at q f ss, (rw ends (h .0), are-runs), refl, λ p i. inr (occurs p i))
 
-    graft-in : (rs : Runs) → AreRuns rules rs → OccursIn (root σ) rs → GraftedIn rules σ rs
+    graft-in : (ρs : Runs) → AreRuns rules ρs → OccursIn (root σ) ρs
+        → (rs : Runs) × AreRuns rules rs × (roots rs ≡ roots ρs) × ((p : ℕ) → Occurs p σ → OccursIn p rs)
     graft-in none h o = absurd o
     graft-in (also r rs) h (inl o) =
-        let g = graft r (h .0) o in
-        record {
-          runs = also (g .run) rs;
-          are-runs = (g .is-run, h .1);
-          ends = ap (λ (q : ℕ). q ∷ roots rs) (g .ends);
-          occurs = λ p i. inl (g .occurs p i);
-        }
+        let (s, runs, ends, occurs) = graft r (h .0) o in
+        (also s rs, (runs, h .1), ap (λ (q : ℕ). q ∷ roots rs) ends, λ p i. inl (occurs p i))
     graft-in (also r rs) h (inr o) =
-        let g = graft-in rs (h .1) o in
-        record {
-          runs = also r (g .runs);
-          are-runs = (h .0, g .are-runs);
-          ends = ap (λ (qs : List ℕ). root r ∷ qs) (g .ends);
-          occurs = λ p i. inr (g .occurs p i);
-        }
+        let (ss, are-runs, ends, occurs) = graft-in rs (h .1) o in
+        (also r ss, (h .0, are-runs), ap (λ (qs : List ℕ). root r ∷ qs) ends, λ p i. inr (occurs p i))
 
--- Runs that end in some states, one each and in order.
-record RunsTo (rules : List Rule) (qs : List ℕ) : Type 0 where
-  runs : Runs
-  are-runs : AreRuns rules runs
-  ends : roots runs ≡ qs
-
-runs-to : (rules : List Rule) (qs : List ℕ) → ((q : ℕ) → List·Memᴰ q qs → (t : Tree) × Reaches rules t q) → RunsTo rules qs
-unfolding AreRuns roots
-runs-to rules [] h = record { runs = none; are-runs = tt; ends = refl }
-runs-to rules (q ∷ qs) h =
-    let (t, r) = h q (List·Memᴰ·head refl) in
-    let rest = runs-to rules qs (λ p m. h p (List·Memᴰ·tail m)) in
-    record {
-      runs = also (r .run) (rest .runs);
-      are-runs = (r .is-run, rest .are-runs);
-      ends = ap₂ _∷_ (r .ends) (rest .ends);
-    }
-
-occurs-root : (r : Run) (p : ℕ) → p ≡ root r → Occurs p r
+pub occurs-root : (r : Run) (p : ℕ) → p ≡ root r → Occurs p r
 unfolding Occurs root
 occurs-root (at q f rs) p e = inl e
 
-occurs-roots : (rs : Runs) (p : ℕ) → List·Memᴰ p (roots rs) → OccursIn p rs
+pub occurs-roots : (rs : Runs) (p : ℕ) → List·Memᴰ p (roots rs) → OccursIn p rs
 unfolding OccursIn roots
 occurs-roots (also r rs) p (List·Memᴰ·head e) = inl (occurs-root r p e)
 occurs-roots (also r rs) p (List·Memᴰ·tail m) = inr (occurs-roots rs p m)
+
+-- A run by a rule whose children are reached.
+module _ (rules : List Rule) where
+  runs-to : (qs : List ℕ) → ((q : ℕ) → List·Memᴰ q qs → (t : Tree) × Reaches rules t q)
+      → (rs : Runs) × AreRuns rules rs × (roots rs ≡ qs)
+  unfolding AreRuns roots
+  runs-to [] h = (none, tt, refl)
+  runs-to (q ∷ qs) h =
+      let (t, r) = h q (List·Memᴰ·head refl) in
+      let (rs, are-runs, ends) = runs-to qs (λ p m. h p (List·Memᴰ·tail m)) in
+      (also (r .run) rs, (r .is-run, are-runs), ap₂ _∷_ (r .ends) ends)
+
+  pub rule-run : (u : Rule) → List·Memᴰ u rules → ((q : ℕ) → List·Memᴰ q (u .children) → (t : Tree) × Reaches rules t q)
+      → (r : Run) × IsRun rules r × (root r ≡ u .target) × ((q : ℕ) → List·Memᴰ q (u .children) → Occurs q r)
+  unfolding IsRun Occurs root
+  rule-run u m reached =
+      let (rs, are-runs, ends) = runs-to (u .children) reached in (
+        at (u .target) (u .symbol) rs,
+        (record { rule = u; is-rule = m; symbol = refl; target = refl; children = sym ends }, are-runs),
+        refl,
+        λ q c. inr (occurs-roots rs q (rw ends c)),
+      )
 
 module _ (A : Automaton) (w : WellFormed A) where
   -- A final state that is reached takes part.
@@ -122,19 +102,13 @@ module _ (A : Automaton) (w : WellFormed A) where
   pub useful-child : (u : Rule) → List·Memᴰ u (A .rules) → Useful A (u .target)
       → ((q : ℕ) → List·Memᴰ q (u .children) → (t : Tree) × Reaches (A .rules) t q)
       → (q : ℕ) → List·Memᴰ q (u .children) → Useful A q
-  unfolding IsRun Occurs root
   useful-child u m target reached q c =
-      let below = runs-to (A .rules) (u .children) reached in
-      let σ : Run = at (u .target) (u .symbol) (below .runs) in
-      let here : IsRun (A .rules) σ = (
-        record { rule = u; is-rule = m; symbol = refl; target = refl; children = sym (below .ends) },
-        below .are-runs,
-      ) in
-      let g = graft (A .rules) σ here (target .run) (target .is-run) (target .occurs) in
+      let (σ, here, top, children) = rule-run (A .rules) u m reached in
+      let (r, is-run, ends, occurs) = graft (A .rules) σ here (target .run) (target .is-run) (rw top (target .occurs)) in
       record {
-        run = g .run;
-        over = run-over A w (g .run) (g .is-run);
-        is-run = g .is-run;
-        final = rw (g .ends) (target .final);
-        occurs = g .occurs q (inr (occurs-roots (below .runs) q (rw (below .ends) c)));
+        run = r;
+        over = run-over A w r is-run;
+        is-run = is-run;
+        final = rw ends (target .final);
+        occurs = occurs q (children q c);
       }
