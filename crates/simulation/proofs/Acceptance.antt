@@ -1,4 +1,5 @@
--- The answer of a check: of a refused table, of a decoded one, and of a tree that is read.
+-- The answer of a check: of a refused table, of a decoded one by its automaton, and of a tree that is read. From what a decoded table holds;
+-- for `check_tree_in` and the theorems on checks.
 use Prim.Native.Nat.{ℕ, _+_, _*_, _≤_}
 use native.Mathlib.Omega.{arith}
 use mathlib.Core.Path.{_≡_, refl, sym, ap}
@@ -19,7 +20,7 @@ use Rattle.automaton.specs.declared.table.Size.{Size}
 use Rattle.automaton.specs.declared.decoding.Decoded.{Decoded}
 use Rattle.automaton.proofs.Encoding.{encode-judge, table-least}
 use Rattle.automaton.proofs.Held.{Held, refused-judged}
-use Rattle.indexing.specs.Index.{IndexRoom}
+use Rattle.indexing.specs.Inner.{IndexRoom}
 use Rattle.trees.specs.declared.evaluation.Answer.the-variants as answers
 use Rattle.trees.specs.Tree.{Tree, accepts}
 use Rattle.trees.specs.Postfix.{judgeTree}
@@ -33,13 +34,12 @@ use Rattle.simulation.specs.Check.{acceptance}
 pub table-refused : (table tree : List ℕ) {r : Decoded} {ranks rows : List ℕ} (cause : Refusal)
     → Decodes (judge table) r ranks rows → r .judged ≡ judged.Refused cause → refused (numberOf cause) ≡ acceptance table tree
 unfolding acceptance _>>=_
-table-refused table tree cause d e =
-    sym (rw (refused-judged table _ _ _ cause d e))
+table-refused table tree cause d e = sym (rw (refused-judged table _ _ _ cause d e))
 
 module _ {table : List ℕ} {size : Size} {finals ranks rows : List ℕ} (h : Held table size finals ranks rows) where
-  pub held-index : Bytes table → (index : List ℕ) → IndexRoom table index → 257 + size .rules ≤ length index
+  pub held-index-room : Bytes table → (index : List ℕ) → IndexRoom table index → 257 + size .rules ≤ length index
   unfolding IndexRoom sizeOf
-  held-index bytes index room =
+  held-index-room bytes index room =
       let few : 10 * length (h .automaton .rules) ≤ length table =
       rw (encode-judge table (h .automaton) bytes (h .judged)) at (table-least (h .automaton)) in
       let count = ap (λ (s : Size). s .rules) (h .counts) in

@@ -19,10 +19,10 @@ acceptance table tree = do
   found (accepts A t)
 
 -- The counts: zero when fresh; one more of its answer with each check, up to the 32-bit ceiling.
-unfoldable pub fresh : Counts
+abbrev pub fresh : Counts
 fresh = record { accepted = 0; rejected = 0; refused = 0 }
 
-unfoldable pub more : ℕ → ℕ
+abbrev pub more : ℕ → ℕ
 more count = min (count + 1) 4294967295
 
 unfoldable pub counted : Counts → Read Bool → Counts

@@ -3,7 +3,7 @@ ghost use mathlib.Core.Path.{_≡_};
 ghost use Prim.Native.Nat.{_≤_};
 ghost use lib.ListN.{length};
 ghost use Rattle.automaton.specs.Inner.{RowsRoom};
-ghost use Rattle.indexing.specs.Index.{IndexRoom};
+ghost use Rattle.indexing.specs.Inner.{IndexRoom};
 ghost use Rattle.trees.specs.Answers.{acceptanceOf};
 ghost use Rattle.simulation.specs.Check as spec;
 use automaton::FEW_ROWS;
@@ -13,7 +13,7 @@ use automaton::decode;
 use indexing::FEW_INDEX;
 use indexing::INDEX;
 use trees::Answer;
-use trees::accept;
+use trees::accept_tree;
 
 // How many checks got each answer (document 01: the "gate"). A count stays at 4,294,967,295.
 pub struct Counts {
@@ -74,7 +74,7 @@ fn more(count: u32) -> u32
 pub fn check(counts: Counts, table: &[u8], tree: &[u8]) -> Checked
     ensures { λ r. ⌜ spec.Checks counts (now (table .entry)) (now (tree .entry)) r ⌝ }
 {
-    let answer = answer_for(table, tree);
+    let answer = check_tree(table, tree);
     Checked {
         counts: counts.with(answer),
         answer,
@@ -83,22 +83,22 @@ pub fn check(counts: Counts, table: &[u8], tree: &[u8]) -> Checked
 
 // Whether a table accepts a tree, or the first cause of refusal. A rule takes ten bytes at least, so a short table gets short arrays, which
 // are cleared sooner.
-fn answer_for(table: &[u8], tree: &[u8]) -> Answer
+fn check_tree(table: &[u8], tree: &[u8]) -> Answer
     ensures { λ r. ⌜ acceptanceOf r ≡ spec.acceptance (now (table .entry)) (now (tree .entry)) ⌝ }
 {
     let mut ranks: [u8; 256] = [0; 256];
     if table.len() <= 1280 {
         let mut rows: [u8; FEW_ROWS] = [0; FEW_ROWS];
         let mut index: [u16; FEW_INDEX] = [0; FEW_INDEX];
-        return answer_in(table, tree, &mut ranks, &mut rows, &mut index);
+        return check_tree_in(table, tree, &mut ranks, &mut rows, &mut index);
     }
     let mut rows: [u8; ROWS] = [0; ROWS];
     let mut index: [u16; INDEX] = [0; INDEX];
-    answer_in(table, tree, &mut ranks, &mut rows, &mut index)
+    check_tree_in(table, tree, &mut ranks, &mut rows, &mut index)
 }
 
 // The same, with arrays to work in.
-fn answer_in(
+fn check_tree_in(
     table: &[u8],
     tree: &[u8],
     ranks: &mut [u8],
@@ -113,6 +113,6 @@ fn answer_in(
     let judged = decoded.judged;
     match judged {
         Judged::Refused(cause) => Answer::Refused(cause),
-        Judged::Table(size) => accept(size, finals, ranks, rows, index, tree),
+        Judged::Table(size) => accept_tree(size, finals, ranks, rows, index, tree),
     }
 }

@@ -1,16 +1,19 @@
--- A tree over the symbols, in postfix order, is read back as that tree exactly if it keeps both limits; and what is read spells the bytes.
-use Prim.Native.Nat.{ℕ, suc, _+_, _*_, _%_, _≤_, _<_, max}
+-- Trees in postfix order: what one node does, by the tests of `push`; that a tree over the symbols, written, is read back as that tree
+-- exactly if it keeps both limits; and that a tree that is read is one over the symbols and is written as the bytes that it was read from.
+-- From the laws of records and fields; for the theorems of `simulation`, and the part on `push` for evaluation.
+use Prim.Native.Nat.{ℕ, suc, _+_, _-_, _*_, _%_, _≤_, _<_, max}
 use native.Mathlib.Nat.{zero-add}
 use native.Mathlib.Omega.{arith}
 use native.Mathlib.Decide.{decLe}
 use mathlib.Core.Path.{_≡_, refl, sym, ap, ap₂, _∙_}
 use mathlib.Core.Logic.{_↔_}
-use mathlib.Core.List.{List, [], _∷_, _++_, reverse, reverseAux, reverseAux-eq, reverse-reverse, reverse-cons, append-assoc, append-nil}
+use mathlib.Core.List.{List, [], _∷_, _++_, reverse, reverseAux, append-assoc, append-nil}
+use mathlib.Core.List.{reverseAux-eq, reverse-append, reverse-reverse, reverse-cons}
 use mathlib.Core.Bool.{true, false≢true}
-use lib.ListN.{length, take, drop, getD, length-append, length-reverse, take-append-drop}
+use lib.ListN.{length, take, drop, getD, length-append, length-drop, length-reverse, take-append-drop}
 use lib.Seq.{take-at, drop-at, drop-length, length-take-le}
 use lib.Dec.{leb, ltb, eqb}
-use borrow.Author.Tests.{lt-ltb, le-leb, lt-leb, ltb-true, leb-true, eqb-true, eq-eqb}
+use borrow.Author.Tests.{lt-ltb, le-ltb, le-leb, lt-leb, ltb-true, leb-true, eqb-true, eq-eqb}
 use Rattle.lists.specs.Lists.{All, none, also}
 use Rattle.lists.proofs.Elements.{all-first, all-map, all-append, all-drop, all-reverse, all-take}
 use Rattle.lists.proofs.Booleans.{and-true-out}
@@ -21,28 +24,79 @@ use Rattle.records.specs.Record.{Opening, whole, nothing, opened, bodyOf, encod
 use Rattle.records.proofs.Fields.{Bytes, fields-numbers, numbers-fields, length-fields}
 use Rattle.records.proofs.Records.{record-opens, record-body, length-record, record-encoded, bytes-body}
 use Rattle.records.proofs.Reading.{refused≢found, checked, bind-found}
-use Rattle.trees.specs.Tree.{Tree, Trees, node, nil, cons, width, Over, AllOver}
+use Rattle.trees.specs.Tree.{Tree, Trees, node, nil, cons, arityOf, Over, AllOver}
 use Rattle.trees.specs.Postfix.{treesIn, push, pushAll, single, isTreeRecord, judgeTree, postfix, postfixes, peak, peakAbove}
 use Rattle.trees.specs.Postfix.{encodeTree}
 
-unfoldable pub treeList : Trees → List Tree
+-- Trees as a list, and back.
+unfoldable treeList : Trees → List Tree
 treeList nil = []
 treeList (cons t ts) = t ∷ treeList ts
-
-length-treeList : (ts : Trees) → length (treeList ts) ≡ width ts
-unfolding treeList width
-length-treeList nil = refl
-length-treeList (cons t ts) = ap suc (length-treeList ts)
 
 treesIn-treeList : (ts : Trees) → treesIn (treeList ts) ≡ ts
 unfolding treeList treesIn
 treesIn-treeList nil = refl
 treesIn-treeList (cons t ts) = ap (cons t) (treesIn-treeList ts)
 
--- x reads trees of which n wait at most: within the limit it comes to y, above the limit it is refused.
-pub record Limited {A : Type 0} (n : ℕ) (x y : Read A) : Type 0 where
-  pub fits : n ≤ 1024 → x ≡ y
-  pub breaks : 1024 < n → x ≡ refused 11
+arity-treesIn : (ts : List Tree) → arityOf (treesIn ts) ≡ length ts
+unfolding treesIn arityOf
+arity-treesIn [] = refl
+arity-treesIn (t ∷ ts) = ap suc (arity-treesIn ts)
+
+length-treeList : (ts : Trees) → length (treeList ts) ≡ arityOf ts
+length-treeList ts = sym (arity-treesIn (treeList ts)) ∙ ap arityOf (treesIn-treeList ts)
+
+-- One node, by the tests of `push`.
+module _ (ranks : List ℕ) (stack : List Tree) (f : ℕ) where
+  pub push-unknown : length ranks ≤ f → push ranks stack f ≡ refused 9
+  unfolding push check _>>_
+  push-unknown h = rw (le-ltb f (length ranks) h)
+
+  module _ (known : f < length ranks) where
+    pub push-unbalanced : length stack < getD ranks f 0 → push ranks stack f ≡ refused 10
+    unfolding push check _>>_
+    push-unbalanced h = rw (lt-ltb f (length ranks) known, lt-leb (getD ranks f 0) (length stack) h)
+
+    module _ (enough : getD ranks f 0 ≤ length stack) where
+      pub push-above-limit : 1024 ≤ length stack - getD ranks f 0 → push ranks stack f ≡ refused 11
+      unfolding push check _>>_
+      push-above-limit h =
+          rw (
+            lt-ltb f (length ranks) known,
+            le-leb (getD ranks f 0) (length stack) enough,
+            lt-leb (1 + length (drop (getD ranks f 0) stack)) 1024 (omega (arith, length-drop (getD ranks f 0) stack)),
+          )
+
+      pub push-found : length stack - getD ranks f 0 < 1024 → push ranks stack f
+          ≡ found (node f (treesIn (reverse (take (getD ranks f 0) stack))) ∷ drop (getD ranks f 0) stack)
+      unfolding push check _>>_
+      push-found h =
+          rw (
+            lt-ltb f (length ranks) known,
+            le-leb (getD ranks f 0) (length stack) enough,
+            le-leb (1 + length (drop (getD ranks f 0) stack)) 1024 (omega (arith, length-drop (getD ranks f 0) stack)),
+          )
+
+-- What a node that is read has passed.
+pub record Pushed (ranks : List ℕ) (stack : List Tree) (f : ℕ) (next : List Tree) : Type 0 where
+  pub symbol : f < length ranks
+  pub rank : getD ranks f 0 ≤ length stack
+  pub few : 1 + length (drop (getD ranks f 0) stack) ≤ 1024
+  pub stacked : node f (treesIn (reverse (take (getD ranks f 0) stack))) ∷ drop (getD ranks f 0) stack ≡ next
+
+pub pushed : (ranks : List ℕ) (stack : List Tree) (f : ℕ) {next : List Tree} → push ranks stack f ≡ found next
+    → Pushed ranks stack f next
+unfolding push
+pushed ranks stack f h =
+    let a = checked (ltb f (length ranks)) 9 _ h in
+    let b = checked (leb (getD ranks f 0) (length stack)) 10 _ (a .1) in
+    let c = checked (leb (1 + length (drop (getD ranks f 0) stack)) 1024) 11 _ (b .1) in
+    record { symbol = ltb-true _ _ (a .0); rank = leb-true _ _ (b .0); few = leb-true _ _ (c .0); stacked = cc (c .1) }
+
+-- Reading back. x reads trees of which n wait at most: within the limit it comes to y, above the limit it is refused.
+record Limited {A : Type 0} (n : ℕ) (x y : Read A) : Type 0 where
+  fits : n ≤ 1024 → x ≡ y
+  breaks : 1024 < n → x ≡ refused 11
 
 -- One reading after the other: at most the larger number waits.
 limited-trans : {A : Type 0} {x y z : Read A} {m n k : ℕ} → Limited m x y → (m ≤ 1024 → Limited n y z) → k ≡ max m n → Limited k x z
@@ -64,45 +118,38 @@ peak-positive (node f ts) = omega arith
 
 module _ (ranks : List ℕ) where
   -- A node takes the trees of its children off the stack.
-  module _ (f : ℕ) (ts : Trees) (stack : List Tree) (w : width ts ≡ getD ranks f 0) where
+  module _ (f : ℕ) (ts : Trees) (stack : List Tree) (w : arityOf ts ≡ getD ranks f 0) where
     on-stack : List Tree
     on-stack = reverseAux (treeList ts) stack
 
-    rank-length : length (reverse (treeList ts)) ≡ getD ranks f 0
-    rank-length = length-reverse (treeList ts) ∙ length-treeList ts ∙ w
-
-    taken : take (getD ranks f 0) on-stack ≡ reverse (treeList ts)
+    splits : on-stack ≡ reverse (treeList ts) ++ stack
     unfolding on-stack
-    taken = rw (reverseAux-eq (treeList ts) stack) (take-at (reverse (treeList ts)) stack (getD ranks f 0) rank-length)
+    splits = reverseAux-eq (treeList ts) stack
 
-    dropped : drop (getD ranks f 0) on-stack ≡ stack
-    unfolding on-stack
-    dropped = rw (reverseAux-eq (treeList ts) stack) (drop-at (reverse (treeList ts)) stack (getD ranks f 0) rank-length)
+    as-many : length (reverse (treeList ts)) ≡ getD ranks f 0
+    as-many = length-reverse (treeList ts) ∙ length-treeList ts ∙ w
 
-    enough : getD ranks f 0 ≤ length on-stack
-    unfolding on-stack
-    enough = rw (reverseAux-eq (treeList ts) stack, length-append) (omega (arith, rank-length))
-
-    children : treesIn (reverse (reverse (treeList ts))) ≡ ts
-    children = ap treesIn (reverse-reverse (treeList ts)) ∙ treesIn-treeList ts
+    long : length on-stack ≡ getD ranks f 0 + length stack
+    long = rw (splits, length-append, as-many)
 
     push-node : f < length ranks → Limited (length stack + 1) (push ranks on-stack f) (found (node f ts ∷ stack))
-    unfolding push check _>>_
     push-node h = record {
-      fits = λ l. rw (symbol, rank, dropped, taken, le-leb (1 + length stack) 1024 (omega arith), children);
-      breaks = λ g. rw (symbol, rank, dropped, lt-leb (1 + length stack) 1024 (omega arith));
+      fits = λ l.
+          push-found ranks on-stack f h (omega (arith, long)) (omega (arith, long))
+          ∙ rw (
+            splits,
+            take-at (reverse (treeList ts)) stack (getD ranks f 0) as-many,
+            drop-at (reverse (treeList ts)) stack (getD ranks f 0) as-many,
+            reverse-reverse,
+            treesIn-treeList,
+          );
+      breaks = λ g. push-above-limit ranks on-stack f h (omega (arith, long)) (omega (arith, long));
     }
-      where
-        symbol : ltb f (length ranks) ≡ true
-        symbol = lt-ltb f (length ranks) h
-
-        rank : leb (getD ranks f 0) (length on-stack) ≡ true
-        rank = le-leb (getD ranks f 0) (length on-stack) enough
 
   mutual
     unfolding postfix pushAll Over treeList on-stack peak
 
-    pub read-back : (t : Tree) (stack : List Tree) (fs : List ℕ) → Over ranks t → length stack ≤ 1024
+    read-back : (t : Tree) (stack : List Tree) (fs : List ℕ) → Over ranks t → length stack ≤ 1024
         → Limited (length stack + peak t) (pushAll ranks stack (postfix t ++ fs)) (pushAll ranks (t ∷ stack) fs)
     read-back (node f ts) stack fs o h =
         rw append-assoc
@@ -120,87 +167,53 @@ module _ (ranks : List ℕ) where
         (λ l. read-all ts (t ∷ stack) fs (suc i) base (omega arith) (o .1) (omega (arith, peak-positive t))) (omega arith))
 
   -- A tree over the symbols is read back as that tree, unless too many trees wait.
-  pub tree-read : (t : Tree) → Over ranks t → Limited (peak t) (pushAll ranks [] (postfix t)) (found (t ∷ []))
+  tree-read : (t : Tree) → Over ranks t → Limited (peak t) (pushAll ranks [] (postfix t)) (found (t ∷ []))
   unfolding pushAll
   tree-read t o = rw (append-nil, zero-add) at (read-back t [] [] o (omega arith))
 
 -- The symbols that a stack of trees spells, from its bottom up.
-unfoldable spelled : List Tree → List ℕ
-spelled [] = []
-spelled (t ∷ stack) = spelled stack ++ postfix t
+abbrev spelled : List Tree → List ℕ
+spelled stack = postfixes (treesIn (reverse stack))
 
-postfixes-snoc : (ts : List Tree) (t : Tree) → postfixes (treesIn (ts ++ (t ∷ []))) ≡ postfixes (treesIn ts) ++ postfix t
+postfixes-append : (ss ts : List Tree) → postfixes (treesIn (ss ++ ts)) ≡ postfixes (treesIn ss) ++ postfixes (treesIn ts)
 unfolding treesIn postfix
-postfixes-snoc [] t = append-nil (postfix t)
-postfixes-snoc (s ∷ ts) t = rw (postfixes-snoc ts t, append-assoc)
-
-spelled-trees : (ts stack : List Tree) → spelled (ts ++ stack) ≡ spelled stack ++ postfixes (treesIn (reverse ts))
-unfolding spelled treesIn postfix
-spelled-trees [] stack = sym (append-nil (spelled stack))
-spelled-trees (t ∷ ts) stack =
-    rw (spelled-trees ts stack, append-assoc, ← postfixes-snoc (reverse ts) t, ← reverse-cons t ts)
-
--- One node more.
-record Pushed (ranks : List ℕ) (stack : List Tree) (f : ℕ) (next : List Tree) : Type 0 where
-  symbol : f < length ranks
-  rank : getD ranks f 0 ≤ length stack
-  stacked : node f (treesIn (reverse (take (getD ranks f 0) stack))) ∷ drop (getD ranks f 0) stack ≡ next
-
-pushed : (ranks : List ℕ) (stack : List Tree) (f : ℕ) {next : List Tree} → push ranks stack f ≡ found next → Pushed ranks stack f next
-unfolding push
-pushed ranks stack f h =
-    let a = checked (ltb f (length ranks)) 9 _ h in
-    let b = checked (leb (getD ranks f 0) (length stack)) 10 _ (a .1) in
-    let c = checked (leb (1 + length (drop (getD ranks f 0) stack)) 1024) 11 _ (b .1) in
-    record { symbol = ltb-true _ _ (a .0); rank = leb-true _ _ (b .0); stacked = cc }
-
-push-spells : (ranks : List ℕ) (stack : List Tree) (f : ℕ) {next : List Tree} → Pushed ranks stack f next
-    → spelled next ≡ spelled stack ++ (f ∷ [])
-unfolding spelled postfix
-push-spells ranks stack f p =
-    let r = getD ranks f 0 in
-    rw (← (p .stacked), ← append-assoc, ← spelled-trees (take r stack) (drop r stack), take-append-drop r stack)
-
-pushAll-spells : (ranks : List ℕ) (stack : List Tree) (fs : List ℕ) (last : List Tree) → pushAll ranks stack fs ≡ found last
-    → spelled last ≡ spelled stack ++ fs
-unfolding pushAll
-pushAll-spells ranks stack [] last h = let e : stack ≡ last = cc in rw (← e) (sym (append-nil (spelled stack)))
-pushAll-spells ranks stack (f ∷ fs) last h =
-    let n = bind-found (push ranks stack f) (λ (next : List Tree). pushAll ranks next fs) h in
-    pushAll-spells ranks (n .0) fs last (n .2)
-    ∙ ap (λ (l : List ℕ). l ++ fs) (push-spells ranks stack f (pushed ranks stack f (n .1)))
-    ∙ append-assoc (spelled stack) (f ∷ []) fs
-
--- The trees on the stack are trees over the symbols.
-width-trees : (ts : List Tree) → width (treesIn ts) ≡ length ts
-unfolding treesIn width
-width-trees [] = refl
-width-trees (t ∷ ts) = ap suc (width-trees ts)
+postfixes-append [] ts = refl
+postfixes-append (s ∷ ss) ts = rw (postfixes-append ss ts, append-assoc)
 
 over-trees : (ranks : List ℕ) (ts : List Tree) → All (Over ranks) ts → AllOver ranks (treesIn ts)
 unfolding treesIn Over
 over-trees ranks [] none = tt
 over-trees ranks (t ∷ ts) (also o os) = (o, over-trees ranks ts os)
 
-push-over : (ranks : List ℕ) (stack : List Tree) (f : ℕ) {next : List Tree} → Pushed ranks stack f next → All (Over ranks) stack
-    → All (Over ranks) next
-unfolding Over
-push-over ranks stack f p h =
+-- The trees on a stack are trees over the symbols, and spell, with the symbols that are left, all symbols that were read.
+record Spelling (ranks symbols : List ℕ) (stack : List Tree) (left : List ℕ) : Type 0 where
+  spells : spelled stack ++ left ≡ symbols
+  over : All (Over ranks) stack
+
+push-spelling : {ranks symbols : List ℕ} {stack next : List Tree} {f : ℕ} {fs : List ℕ} → Pushed ranks stack f next
+    → Spelling ranks symbols stack (f ∷ fs) → Spelling ranks symbols next fs
+unfolding treesIn postfix Over
+push-spelling {ranks} {stack = stack} {f = f} {fs = fs} p s =
     let r = getD ranks f 0 in
     let ts = take r stack in
-    let w : width (treesIn (reverse ts)) ≡ r =
-    width-trees (reverse ts) ∙ length-reverse ts ∙ length-take-le r stack (p .rank) in
-    rw (← (p .stacked))
-    (also {x = node f (treesIn (reverse ts))}
-    (p .symbol, w, over-trees ranks (reverse ts) (all-reverse ts [] (all-take r stack h) none)) (all-drop r stack h))
+    let children = treesIn (reverse ts) in
+    let arity : arityOf children ≡ r = arity-treesIn (reverse ts) ∙ length-reverse ts ∙ length-take-le r stack (p .rank) in
+    let all : spelled stack ≡ spelled (drop r stack) ++ postfixes children =
+    ap spelled (sym (take-append-drop r stack)) ∙ rw (reverse-append ts (drop r stack), postfixes-append) in
+    rw (← (p .stacked)) record {
+      spells = rw (reverse-cons, postfixes-append) (simp (append-assoc, append-nil) (rw (all, append-assoc) at (s .spells)));
+      over = also {x = node f children}
+          (p .symbol, arity, over-trees ranks (reverse ts) (all-reverse ts [] (all-take r stack (s .over)) none))
+          (all-drop r stack (s .over));
+    }
 
-pushAll-over : (ranks : List ℕ) (stack : List Tree) (fs : List ℕ) (last : List Tree) → pushAll ranks stack fs ≡ found last
-    → All (Over ranks) stack → All (Over ranks) last
+pushAll-spelling : (ranks symbols : List ℕ) (stack : List Tree) (fs : List ℕ) (last : List Tree) → pushAll ranks stack fs ≡ found last
+    → Spelling ranks symbols stack fs → Spelling ranks symbols last []
 unfolding pushAll
-pushAll-over ranks stack [] last h o = let e : stack ≡ last = cc in rw (← e) o
-pushAll-over ranks stack (f ∷ fs) last h o =
+pushAll-spelling ranks symbols stack [] last h s = let e : stack ≡ last = cc in rw (← e) s
+pushAll-spelling ranks symbols stack (f ∷ fs) last h s =
     let n = bind-found (push ranks stack f) (λ (next : List Tree). pushAll ranks next fs) h in
-    pushAll-over ranks (n .0) fs last (n .2) (push-over ranks stack f (pushed ranks stack f (n .1)) o)
+    pushAll-spelling ranks symbols (n .0) fs last (n .2) (push-spelling (pushed ranks stack f (n .1)) s)
 
 -- One tree is left.
 single-found : (stack : List Tree) (t : Tree) → single stack ≡ found t → stack ≡ t ∷ []
@@ -227,7 +240,7 @@ is-record nothing b h = absurd (false≢true h)
 is-record (records.refused cause) b h = absurd (false≢true h)
 
 pub tree-found : (ranks b : List ℕ) (t : Tree) → judgeTree ranks b ≡ found t → TreeFound ranks b t
-unfolding judgeTree spelled
+unfolding judgeTree treesIn postfix
 tree-found ranks b t h =
     let fs = numbers (bodyOf b) in
     let a = checked (isTreeRecord (opened b) b) 8 _ h in
@@ -235,12 +248,13 @@ tree-found ranks b t h =
     let d = bind-found (pushAll ranks [] fs) single (c .1) in
     let e : d .0 ≡ t ∷ [] = single-found (d .0) t (d .2) in
     let o = is-record (opened b) b (a .0) in
+    let s = rw e at (pushAll-spelling ranks fs [] fs (d .0) (d .1) record { spells = refl; over = none }) in
     record {
       opens = o .0;
       even = o .1;
       nodes = leb-true (length fs) 16384 (c .0);
-      spells = rw e at (pushAll-spells ranks [] fs (d .0) (d .1));
-      over = all-first (rw e at (pushAll-over ranks [] fs (d .0) (d .1) none));
+      spells = rw (append-nil (postfix t ++ []), append-nil (postfix t)) at (s .spells);
+      over = all-first (s .over);
     }
 
 -- What is read is written as the bytes that it was read from.

@@ -1,4 +1,5 @@
--- A tree belongs to the states that its runs reach: a run of a node is a rule and runs of its children, and no more.
+-- A tree belongs to the states that its runs reach: a run of a node is a rule and runs of its children, and no more. From the definitions
+-- alone; for the theorems of `simulation`, and for the languages that the preorder compares and the steps of reduction keep.
 use Prim.Native.Nat.{ℕ}
 use mathlib.Core.Path.{_≡_, refl, ap, ap₂}
 use mathlib.Core.List.{List, [], _∷_}
@@ -77,16 +78,11 @@ module _ (rules : List Rule) where
         let u = any-out _ rules h in
         let a = and-true-out (eqb (u .element .target) q) _ (u .passes) in
         let b = and-true-out (eqb (u .element .symbol) f) (belongInOrder rules ts (u .element .children)) (a .1) in
-        let v : RuleAt rules q f (u .element .children) = record {
-          rule = u .element;
-          is-rule = u .member;
-          symbol = eqb-true _ _ (b .0);
-          target = eqb-true _ _ (a .0);
-          children = refl;
-        } in
-        reaches-node v (belongInOrder-reaches ts _ (b .1))
+        reaches-node
+        record { rule = u .element; is-rule = u .member; symbol = eqb-true _ _ (b .0); target = eqb-true _ _ (a .0); children = refl }
+        (belongInOrder-reaches ts _ (b .1))
 
-    pub belongInOrder-reaches : (ts : Trees) (qs : List ℕ) → belongInOrder rules ts qs ≡ true → ReachesAll rules ts qs
+    belongInOrder-reaches : (ts : Trees) (qs : List ℕ) → belongInOrder rules ts qs ≡ true → ReachesAll rules ts qs
     belongInOrder-reaches nil [] h = tt
     belongInOrder-reaches nil (q ∷ qs) h = absurd (false≢true h)
     belongInOrder-reaches (cons t ts) [] h = absurd (false≢true h)
@@ -103,7 +99,7 @@ module _ (rules : List Rule) where
         let children : belongInOrder rules ts (u .rule .children) ≡ true = rw (u .children) (reaches-belongInOrder ts qs below) in
         any-in _ (u .is-rule) (and-true-in (eq-eqb _ _ (u .target)) (and-true-in (eq-eqb _ _ (u .symbol)) children))
 
-    pub reaches-belongInOrder : (ts : Trees) (qs : List ℕ) → ReachesAll rules ts qs → belongInOrder rules ts qs ≡ true
+    reaches-belongInOrder : (ts : Trees) (qs : List ℕ) → ReachesAll rules ts qs → belongInOrder rules ts qs ≡ true
     reaches-belongInOrder nil [] h = refl
     reaches-belongInOrder nil (q ∷ qs) h = absurd h
     reaches-belongInOrder (cons t ts) [] h = absurd h

@@ -1,11 +1,10 @@
--- The values and document 01's number for each case of the answer to a tree.
+-- What the code's answer to a tree says: accepted or not, or document 01's number of the refusal.
 use mathlib.Core.Bool.{Bool, true, false}
 use Rattle.records.specs.Refusal.{numberOf}
 use Rattle.records.specs.Read.{Read, found, refused}
 use Rattle.trees.specs.declared.evaluation.Answer.{Answer}
 use Rattle.trees.specs.declared.evaluation.Answer.the-variants.{Accepted, Rejected, Refused}
 
--- The values and document 01's number for each case of the code's answer: accepted or not, or the refusal.
 unfoldable pub acceptanceOf : Answer → Read Bool
 acceptanceOf Accepted = found true
 acceptanceOf Rejected = found false

@@ -1,15 +1,16 @@
 -- What the contracts of evaluation cite; no call for everybody cites any of it.
 use Prim.Native.Nat.{ℕ, _*_, _≤_, _<_}
 use mathlib.Core.Path.{_≡_}
-use mathlib.Core.List.{List, [], _∷_}
+use mathlib.Core.List.{List, [], _∷_, reverse}
 use mathlib.Core.Bool.{Bool, true, _&&_}
 use lib.ListN.{length, drop, getD}
 use lib.Dec.{eqb}
 use Rattle.lists.specs.Lists.{any}
 use Rattle.sets.specs.Set.{member, words}
 use Rattle.sets.specs.Entries.{entryAt}
+use Rattle.sets.specs.Inner.{Has}
 use Rattle.records.specs.Refusal.{numberOf}
-use Rattle.records.specs.Read.{Read, found, refused, _>>=_, mapRead}
+use Rattle.records.specs.Read.{Read, found, refused, _>>=_}
 use Rattle.automaton.specs.Automaton.{Rule, Automaton}
 use Rattle.automaton.specs.Row.{ruleAt, Rows}
 use Rattle.indexing.specs.Index.{Indexes}
@@ -35,28 +36,27 @@ unfoldable pub inOrder : List ℕ → List ℕ → Bool
 inOrder sets [] = true
 inOrder sets (q ∷ qs) = member (entryAt sets 0) q && inOrder (drop 4 sets) qs
 
--- Rule i has target q, and its children are in the sets.
-unfoldable pub leadsTo : List ℕ → List ℕ → ℕ → ℕ → Bool
-leadsTo rows sets q i = eqb (ruleAt rows i .target) q && inOrder sets (ruleAt rows i .children)
+-- Rule i gives state q: its target is q, and its children are in the sets.
+unfoldable pub ruleGives : List ℕ → List ℕ → ℕ → ℕ → Bool
+ruleGives rows sets q i = eqb (ruleAt rows i .target) q && inOrder sets (ruleAt rows i .children)
 
 -- The set whose words stand two places apart.
 unfoldable pub gathered : List ℕ → List ℕ
 gathered spread = words (λ (i : ℕ). getD spread (2 * i) 0)
 
--- Words represent a stack of trees, whose top stands first: the entry of each tree is the set of the states that it belongs to.
+-- The entries of some words are, one each and in order, the sets of the states that trees belong to.
+unfoldable pub Entries : List Rule → List ℕ → List Tree → Type 0
+Entries rules words [] = Unit {0}
+Entries rules words (t ∷ ts) = Has (entryAt words 0) (belongs rules t) × Entries rules (drop 4 words) ts
+
+-- Words represent a stack of trees, whose top stands first and has the last entry.
 unfoldable pub Represents : List Rule → List ℕ → List Tree → Type 0
-Represents rules words [] = Unit {0}
-Represents rules words (t ∷ ts) =
-    ((q : ℕ) → q < 256 → member (entryAt words (length ts)) q ≡ belongs rules t q) × Represents rules words ts
+Represents rules words stack = Entries rules words (reverse stack)
 
-unfoldable pub heightOf : Height → Read ℕ
-heightOf (height.At n) = found n
-heightOf (height.Refused cause) = refused (numberOf cause)
-
--- What reading nodes leaves: the stack's height or the refusal, and words that represent the stack.
-pub record Stacked (rules : List Rule) (stack : Read (List Tree)) (words : List ℕ) (answer : Height) : Type 0 where
-  pub height : heightOf answer ≡ mapRead length stack
-  pub represents : (trees : List Tree) → stack ≡ found trees → Represents rules words trees
+-- What reading nodes leaves: the height of the stack, which the words represent, or the refusal.
+unfoldable pub Stacked : List Rule → Read (List Tree) → List ℕ → Height → Type 0
+Stacked rules stack words (height.At n) = (trees : List Tree) × (stack ≡ found trees) × (length trees ≡ n) × Represents rules words trees
+Stacked rules stack words (height.Refused cause) = stack ≡ refused (numberOf cause)
 
 -- The acceptance by final states and rules of the one tree on a stack and of a tree in postfix order; by an automaton, of a tree in bytes.
 unfoldable pub stackAcceptance : List Rule → List ℕ → List Tree → Read Bool

@@ -16,14 +16,15 @@ mutual
     nil : Trees
     cons : Tree → Trees → Trees
 
--- A tree over some symbols, given by their ranks: each node has a symbol of them, so that its rank is there, and as many children as that.
-unfoldable pub width : Trees → ℕ
-width nil = zero
-width (cons t ts) = suc (width ts)
+-- How many children they are.
+unfoldable pub arityOf : Trees → ℕ
+arityOf nil = zero
+arityOf (cons t ts) = suc (arityOf ts)
 
+-- A tree over some symbols, given by their ranks: each node has a symbol of them, so that its rank is there, and as many children as that.
 unfoldable mutual
   pub Over : List ℕ → Tree → Type 0
-  Over ranks (node f ts) = (f < length ranks) × (width ts ≡ getD ranks f 0) × AllOver ranks ts
+  Over ranks (node f ts) = (f < length ranks) × (arityOf ts ≡ getD ranks f 0) × AllOver ranks ts
 
   pub AllOver : List ℕ → Trees → Type 0
   AllOver ranks nil = Unit {0}

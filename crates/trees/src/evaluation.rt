@@ -1,12 +1,14 @@
 // A tree, in postfix order, against a decoded table. The stack holds, for each finished tree, the set of the states that it belongs to.
+// From the top: `accept_tree` takes the record apart, `accept_nodes` picks a stack for the nodes in it, `evaluate` goes through them, one
+// `step` for each, and `accept_stack` answers for what they leave.
 ghost use Prim.Native.Nat.{ℕ, _+_, _*_, _/_, _≤_, _<_};
 ghost use mathlib.Core.Path.{_≡_};
 ghost use mathlib.Core.Bool.{cond};
 ghost use mathlib.Core.List.{List, [], List·Memᴰ};
 ghost use lib.ListN.{length, drop};
 ghost use lib.Dec.{eqb};
-ghost use Rattle.lists.specs.Lists.{from, keep, any};
-ghost use Rattle.sets.specs.Set.{member, emptySet, sameSet, withState};
+ghost use Rattle.lists.specs.Lists.{from, any};
+ghost use Rattle.sets.specs.Set.{member, emptySet, sameSet, withState, statesIn};
 ghost use Rattle.sets.specs.Entries.{entryAt};
 ghost use Rattle.sets.specs.Inner.{Has};
 ghost use Rattle.records.specs.Bytes as bytes;
@@ -17,8 +19,8 @@ ghost use Rattle.automaton.specs.Decoded.{automatonIn};
 ghost use Rattle.trees.specs.Tree.{Tree};
 ghost use Rattle.trees.specs.Postfix.{isTreeRecord, push, pushAll};
 ghost use Rattle.trees.specs.Answers.{acceptanceOf};
-ghost use Rattle.trees.specs.Inner.{Evaluable, StackRoom, inOrder, leadsTo, gathered, Represents, Stacked, stackAcceptance, nodesAcceptance};
-ghost use Rattle.trees.specs.Inner.{treeAcceptance};
+ghost use Rattle.trees.specs.Inner.{Evaluable, StackRoom, inOrder, ruleGives, gathered, Represents, Stacked};
+ghost use Rattle.trees.specs.Inner.{stackAcceptance, nodesAcceptance, treeAcceptance};
 use automaton::Size;
 use automaton::children_of_rank;
 use automaton::target_of;
@@ -106,7 +108,7 @@ fn targets(rows: &[u8], numbers: &[u16], sets: &[u64], rank: usize) -> StateSet
     requires { ⌜ 4 * rank ≤ length (now sets) ⌝ }
     requires { ⌜ ((i : ℕ) → List·Memᴰ i (now numbers) → Row (now rows) i × (rank ≡ length (ruleAt (now rows) i .children))) ⌝ }
     ensures { λ r. ⌜ Has (r .words)
-        (λ (q : ℕ). any (leadsTo (now (rows .entry)) (now (sets .entry)) q) (now (numbers .entry))) ⌝ }
+        (λ (q : ℕ). any (ruleGives (now (rows .entry)) (now (sets .entry)) q) (now (numbers .entry))) ⌝ }
 {
     if has_empty(sets, rank) {
         return StateSet::empty();
@@ -190,16 +192,16 @@ fn evaluate(ranks: &[u8], rows: &[u8], index: &[u16], b: &[u8], stack: &mut [u64
 // Whether one of the final states is in the stack's lowest entry.
 fn has_final(finals: StateSet, stack: &[u64]) -> bool
     requires { ⌜ 4 ≤ length (now stack) ⌝ }
-    ensures { λ r. ⌜ r ≡ any (member (entryAt (now (stack .entry)) 0)) (keep (member (finals .words)) (from 0 256)) ⌝ }
+    ensures { λ r. ⌜ r ≡ any (member (entryAt (now (stack .entry)) 0)) (statesIn 256 (finals .words)) ⌝ }
 {
     !entry(stack, 0).meet(finals).same(StateSet::empty())
 }
 
 // The answer for the one tree on a stack of the given height.
-fn answer_on(height: usize, finals: StateSet, stack: &[u64]) -> Answer
+fn accept_stack(height: usize, finals: StateSet, stack: &[u64]) -> Answer
     requires { ⌜ 4 ≤ length (now stack) ⌝ }
     ensures { λ r. ⌜ ((rules : List Rule) (trees : List Tree) → length trees ≡ height → Represents rules (now (stack .entry)) trees
-        → acceptanceOf r ≡ stackAcceptance rules (keep (member (finals .words)) (from 0 256)) trees) ⌝ }
+        → acceptanceOf r ≡ stackAcceptance rules (statesIn 256 (finals .words)) trees) ⌝ }
 {
     if height != 1 {
         return Answer::Refused(Refusal::Unbalanced);
@@ -211,7 +213,7 @@ fn answer_on(height: usize, finals: StateSet, stack: &[u64]) -> Answer
 }
 
 // The answer for a tree's body, on a stack with room for its nodes.
-fn accept_on(
+fn accept_nodes_on(
     finals: StateSet,
     ranks: &[u8],
     rows: &[u8],
@@ -222,12 +224,12 @@ fn accept_on(
     requires { ⌜ ((k : ℕ) × Evaluable k (now ranks) (now rows) (now index)) ⌝ }
     requires { ⌜ StackRoom (length (now b) / 2) (now stack) × (4 ≤ length (now stack)) ⌝ }
     ensures { λ r. ⌜ ((k : ℕ) → Evaluable k (now (ranks .entry)) (now (rows .entry)) (now (index .entry))
-        → acceptanceOf r ≡ nodesAcceptance (now (ranks .entry)) (keep (member (finals .words)) (from 0 256))
+        → acceptanceOf r ≡ nodesAcceptance (now (ranks .entry)) (statesIn 256 (finals .words))
         (rulesIn (now (rows .entry)) k) (bytes.numbers (now (b .entry)))) ⌝ }
 {
     match evaluate(ranks, rows, index, b, stack) {
         Height::Refused(cause) => Answer::Refused(cause),
-        Height::At(height) => answer_on(height, finals, stack),
+        Height::At(height) => accept_stack(height, finals, stack),
     }
 }
 
@@ -235,15 +237,15 @@ fn accept_on(
 fn accept_nodes(finals: StateSet, ranks: &[u8], rows: &[u8], index: &[u16], b: &[u8]) -> Answer
     requires { ⌜ ((k : ℕ) × Evaluable k (now ranks) (now rows) (now index)) ⌝ }
     ensures { λ r. ⌜ ((k : ℕ) → Evaluable k (now (ranks .entry)) (now (rows .entry)) (now (index .entry))
-        → acceptanceOf r ≡ nodesAcceptance (now (ranks .entry)) (keep (member (finals .words)) (from 0 256))
+        → acceptanceOf r ≡ nodesAcceptance (now (ranks .entry)) (statesIn 256 (finals .words))
         (rulesIn (now (rows .entry)) k) (bytes.numbers (now (b .entry)))) ⌝ }
 {
     if b.len() <= 128 {
         let mut stack: [u64; 256] = [0; 256];
-        return accept_on(finals, ranks, rows, index, b, &mut stack);
+        return accept_nodes_on(finals, ranks, rows, index, b, &mut stack);
     }
     let mut stack: [u64; 4096] = [0; 4096];
-    accept_on(finals, ranks, rows, index, b, &mut stack)
+    accept_nodes_on(finals, ranks, rows, index, b, &mut stack)
 }
 
 // Whether `t` is one record of kind 16 with an even body, and nothing after it.
@@ -264,7 +266,7 @@ fn is_tree(t: &[u8]) -> bool
 }
 
 // Whether a decoded table accepts a tree, or the tree's first cause of refusal; the index is made in a lent array.
-pub fn accept(
+pub fn accept_tree(
     size: Size,
     finals: StateSet,
     ranks: &[u8],

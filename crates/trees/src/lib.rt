@@ -3,4 +3,4 @@ mod evaluation;
 
 // Exported for the crates above.
 pub use evaluation::Answer;
-pub use evaluation::accept;
+pub use evaluation::accept_tree;

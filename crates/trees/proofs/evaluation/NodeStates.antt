@@ -1,4 +1,5 @@
--- The children of a rule against sets, one each and in order; and the targets of some rules, one after the other.
+-- What the sets of a node's children give: whether a rule's children are in them, child by child, and the targets of the rules whose children
+-- are, rule by rule. From the laws of state sets and their entries; for `bit_at`, `fits`, `targets`, and for whole stacks in Stacks.
 use Prim.Native.Nat.{ℕ, zero, suc, _+_, _*_, _/_, _%_, _^_, _≤_, _<_}
 use native.Mathlib.Numerals.{add-one, one-add}
 use native.Mathlib.Omega.{arith}
@@ -21,27 +22,27 @@ use Rattle.sets.proofs.EntrySets.{entry-length, entry-at}
 use Rattle.records.proofs.Fields.{Bytes}
 use Rattle.automaton.specs.Row.{ruleAt, Row}
 use Rattle.automaton.proofs.Rows.{rule-low}
-use Rattle.trees.specs.Inner.{inOrder, leadsTo}
+use Rattle.trees.specs.Inner.{inOrder, ruleGives}
 
 -- Tests as numbers.
 
-pub both-bits : (s t : Bool) → bitAnd (cond s 1 0) (cond t 1 0) ≡ cond (s && t) 1 0
-both-bits true true = refl
-both-bits true false = refl
-both-bits false true = refl
-both-bits false false = refl
+pub and-of-bits : (s t : Bool) → bitAnd (cond s 1 0) (cond t 1 0) ≡ cond (s && t) 1 0
+and-of-bits true true = refl
+and-of-bits true false = refl
+and-of-bits false true = refl
+and-of-bits false false = refl
 
-pub bit-most : (t : Bool) → cond t 1 0 ≤ 1
-bit-most true = omega arith
-bit-most false = omega arith
+pub bit-at-most-one : (t : Bool) → cond t 1 0 ≤ 1
+bit-at-most-one true = omega arith
+bit-at-most-one false = omega arith
 
-bit-test : (t : Bool) → eqb (cond t 1 0) 1 ≡ t
-bit-test true = refl
-bit-test false = refl
+bit-is-one : (t : Bool) → eqb (cond t 1 0) 1 ≡ t
+bit-is-one true = refl
+bit-is-one false = refl
 
-pub bit-of : (sets : List ℕ) (e q : ℕ) → q < 256 → getD sets (4 * e + q / 64) 0 / 2 ^ (q % 64) % 2 ≡ cond (member (entryAt sets e) q) 1 0
+pub bit-of-member : (sets : List ℕ) (e q : ℕ) → q < 256 → getD sets (4 * e + q / 64) 0 / 2 ^ (q % 64) % 2 ≡ cond (member (entryAt sets e) q) 1 0
 unfolding member
-bit-of sets e q h = rw (entry-at sets e (q / 64) (omega arith)) (go (getD sets (4 * e + q / 64) 0 / 2 ^ (q % 64) % 2) (omega arith))
+bit-of-member sets e q h = rw (entry-at sets e (q / 64) (omega arith)) (go (getD sets (4 * e + q / 64) 0 / 2 ^ (q % 64) % 2) (omega arith))
   where
     go : (x : ℕ) → x < 2 → x ≡ cond (eqb x 1) 1 0
     go zero l = refl
@@ -50,78 +51,75 @@ bit-of sets e q h = rw (entry-at sets e (q / 64) (omega arith)) (go (getD sets (
 
 -- Children in order.
 
-pub entry-behind : (sets : List ℕ) (e n : ℕ) → entryAt (drop (4 * e) sets) n ≡ entryAt sets (e + n)
+pub entry-after-drop : (sets : List ℕ) (e n : ℕ) → entryAt (drop (4 * e) sets) n ≡ entryAt sets (e + n)
 unfolding entryAt
-entry-behind sets e n = let place : 4 * e + 4 * n ≡ 4 * (e + n) = omega arith in rw (drop-drop, place)
+entry-after-drop sets e n = let place : 4 * e + 4 * n ≡ 4 * (e + n) = omega arith in rw (drop-drop, place)
 
-pub in-order-append : (sets ps : List ℕ) (q : ℕ)
+in-order-snoc : (sets ps : List ℕ) (q : ℕ)
     → inOrder sets (ps ++ (q ∷ [])) ≡ (inOrder sets ps && member (entryAt sets (length ps)) q)
 unfolding inOrder
-in-order-append sets [] q = and-true (member (entryAt sets 0) q)
-in-order-append sets (p ∷ ps) q =
-    rw (in-order-append (drop 4 sets) ps q, entry-behind sets 1 (length ps), one-add)
+in-order-snoc sets [] q = and-true (member (entryAt sets 0) q)
+in-order-snoc sets (p ∷ ps) q =
+    rw (in-order-snoc (drop 4 sets) ps q, entry-after-drop sets 1 (length ps), one-add)
     (sym (and-assoc (member (entryAt sets 0) p) (inOrder (drop 4 sets) ps) _))
 
-pub in-order-next : (sets children : List ℕ) (j : ℕ) → j < length children
+pub in-order-one-more : (sets children : List ℕ) (j : ℕ) → j < length children
     → inOrder sets (take (j + 1) children) ≡ (inOrder sets (take j children) && member (entryAt sets j) (getD children j 0))
-in-order-next sets children j h =
-    rw (add-one, take-suc children j 0 h, in-order-append sets (take j children), length-take-le j children (omega arith))
+in-order-one-more sets children j h =
+    rw (add-one, take-suc children j 0 h, in-order-snoc sets (take j children), length-take-le j children (omega arith))
 
 pub in-order-one : (sets children : List ℕ) → length children ≡ 1 → inOrder sets children ≡ member (entryAt sets 0) (getD children 0 0)
 unfolding inOrder
 in-order-one sets children one =
-    ap (inOrder sets) (sym (take-all 1 children (omega arith))) ∙ in-order-next sets children 0 (omega arith)
+    ap (inOrder sets) (sym (take-all 1 children (omega arith))) ∙ in-order-one-more sets children 0 (omega arith)
 
 pub in-order-two : (sets children : List ℕ) → length children ≡ 2
     → inOrder sets children ≡ (member (entryAt sets 0) (getD children 0 0) && member (entryAt sets 1) (getD children 1 0))
 unfolding inOrder
 in-order-two sets children two =
     ap (inOrder sets) (sym (take-all 2 children (omega arith)))
-    ∙ in-order-next sets children 1 (omega arith) ∙ rw (in-order-next sets children 0 (omega arith))
+    ∙ in-order-one-more sets children 1 (omega arith) ∙ rw (in-order-one-more sets children 0 (omega arith))
 
-in-order-none : (sets children : List ℕ) (e : ℕ) → All (λ (q : ℕ). q < 256) children → e < length children
+in-order-empty : (sets children : List ℕ) (e : ℕ) → All (λ (q : ℕ). q < 256) children → e < length children
     → entryAt sets e ≡ emptySet → inOrder sets children ≡ false
 unfolding inOrder
-in-order-none sets [] e lows h is = absurd (omega arith)
-in-order-none sets (q ∷ qs) zero (also low lows) h is = rw (is, member-empty q low)
-in-order-none sets (q ∷ qs) (suc e) (also low lows) h is =
+in-order-empty sets [] e lows h is = absurd (omega arith)
+in-order-empty sets (q ∷ qs) zero (also low lows) h is = rw (is, member-empty q low)
+in-order-empty sets (q ∷ qs) (suc e) (also low lows) h is =
     and-false-right (member (entryAt sets 0) q)
-    (in-order-none (drop 4 sets) qs e lows (omega arith) (entry-behind sets 1 e ∙ rw one-add is))
+    (in-order-empty (drop 4 sets) qs e lows (omega arith) (entry-after-drop sets 1 e ∙ rw one-add is))
 
 -- Rules.
 module _ (rows numbers sets : List ℕ) where
-  abbrev leads : ℕ → ℕ → Bool
-  leads q n = any (leadsTo rows sets q) (take n numbers)
-
-  -- None leads anywhere where one of the sets is empty.
-  pub no-targets : (rank : ℕ) → 4 * rank ≤ length sets → Bytes rows
+  -- No rule gives a state where one of the sets is empty.
+  pub no-targets-of-empty : (rank : ℕ) → 4 * rank ≤ length sets → Bytes rows
       → ((i : ℕ) → List·Memᴰ i numbers → Row rows i × (rank ≡ length (ruleAt rows i .children)))
       → any (λ (e : ℕ). sameSet (entryAt sets e) emptySet) (from 0 rank) ≡ true
-      → Has emptySet (λ (q : ℕ). any (leadsTo rows sets q) numbers)
-  unfolding leadsTo emptySet words
-  no-targets rank room bytes ranked h q low =
+      → Has emptySet (λ (q : ℕ). any (ruleGives rows sets q) numbers)
+  unfolding ruleGives emptySet words
+  no-targets-of-empty rank room bytes ranked h q low =
       let f = any-out _ (from 0 rank) h in
       let inside = member-from rank 0 (f .element) (f .member) in
       let is = same-set-out (entryAt sets (f .element)) emptySet (entry-length sets (f .element) (omega arith)) refl (f .passes) in
       member-empty q low
       ∙ sym (any-none _ numbers
       (λ i m. and-false-right (eqb (ruleAt rows i .target) q)
-      (in-order-none sets (ruleAt rows i .children) (f .element) (rule-low rows i bytes .2) (omega (arith, ranked i m .1)) is)))
+      (in-order-empty sets (ruleAt rows i .children) (f .element) (rule-low rows i bytes .2) (omega (arith, ranked i m .1)) is)))
 
-  pub targets-next : (set : List ℕ) (j : ℕ) → j < length numbers → Has set (λ (q : ℕ). any (leadsTo rows sets q) (take j numbers))
+  pub targets-one-more : (set : List ℕ) (j : ℕ) → j < length numbers → Has set (λ (q : ℕ). any (ruleGives rows sets q) (take j numbers))
       → (bit : ℕ) → bit ≡ cond (inOrder sets (ruleAt rows (getD numbers j 0) .children)) 1 0
       → Has (cond (eqb bit 1) (withState set (ruleAt rows (getD numbers j 0) .target)) set)
-      (λ (q : ℕ). any (leadsTo rows sets q) (take (j + 1) numbers))
-  unfolding any leadsTo
-  targets-next set j h has bit is q low =
-      rw (is, bit-test, add-one, take-suc numbers j 0 h, any-append, or-false)
+      (λ (q : ℕ). any (ruleGives rows sets q) (take (j + 1) numbers))
+  unfolding any ruleGives
+  targets-one-more set j h has bit is q low =
+      rw (is, bit-is-one, add-one, take-suc numbers j 0 h, any-append, or-false)
       (go (inOrder sets (ruleAt rows (getD numbers j 0) .children)))
     where
       target : ℕ
       target = ruleAt rows (getD numbers j 0) .target
 
-      go : (t : Bool) → member (cond t (withState set target) set) q ≡ (leads q j || (eqb target q && t))
+      go : (t : Bool) → member (cond t (withState set target) set) q ≡ (any (ruleGives rows sets q) (take j numbers) || (eqb target q && t))
       go true =
           member-with set target q low
-          ∙ rw (and-true, has q low, same-test q target target q (λ e. sym e) (λ e. sym e)) (or-comm (eqb target q) (leads q j))
+          ∙ rw (and-true, has q low, same-test q target target q (λ e. sym e) (λ e. sym e)) (or-comm (eqb target q) _)
       go false = rw (and-false, or-false) (has q low)

@@ -1,4 +1,4 @@
--- `simulation::checking::check` meets its contract: the counts get the answer.
+-- The counts get the answer.
 use borrow.Author.Needs.{needs}
 use mathlib.Core.Path.{ap, _∙_}
 use Rattle.simulation.specs.Check.{counted}
@@ -7,7 +7,7 @@ use Rattle.simulation.proofs.checking.check.Statement.{statement}
 
 returns : tie.Need-returns
 returns c =
-    let e = c .before .answer-for .ensures in
+    let e = c .before .check-tree .ensures in
     record { answer = e; counts-after = c .with .ensures ∙ ap (counted (c .before .before .before .before .args .counts)) e }
 
 pub check-spec : {M : Type 1} → statement M

@@ -1,16 +1,17 @@
 -- A bit of 1 is the store of `withState`; a bit of 0 stores what stood there.
 use Prim.Native.Nat.{ℕ, _*_, _/_, _%_, _^_, _≤_, _<_}
-use mathlib.Core.Path.{_≡_, refl, sym, ap}
+use mathlib.Core.Path.{_≡_, refl, ap}
 use mathlib.Core.List.{List}
 use mathlib.Core.Bool.{Bool, true, false, cond}
 use native.Mathlib.Nat.{zero-mul}
 use native.Mathlib.Omega.{arith}
+use native.Mathlib.Decide.{ℕ-discrete}
 use lib.ListN.{length, getD, set}
 use lib.Seq.{set-getD, getD-set-same, getD-set-other}
 use lib.Dec.{eqb}
 use lib.Bits.{bitOr, or-zero-r}
 use borrow.Author.Needs.{needs}
-use borrow.Author.Tests.{eqb-true, eqb-false}
+use borrow.Author.Tests.{eqb-true, eqb-false, eq-eqb, ne-eqb}
 use Rattle.sets.specs.Set.{words, replaced, withState}
 use Rattle.sets.proofs.StateSets.{getD-words, one-bit}
 use Rattle.trees.specs.Inner.{gathered}
@@ -23,13 +24,10 @@ unfolding gathered replaced words
 gathered-set ws i w eight h = rw (word 0, word 1, word 2, word 3)
   where
     word : (j : ℕ) → getD (set ws (2 * i) w) (2 * j) 0 ≡ cond (eqb j i) w (getD ws (2 * j) 0)
-    word j = go (eqb j i) refl
-      where
-        go : (t : Bool) → eqb j i ≡ t → getD (set ws (2 * i) w) (2 * j) 0 ≡ cond t w (getD ws (2 * j) 0)
-        go true e = rw (eqb-true j i e) (getD-set-same ws (2 * i) w 0 (omega arith))
-        go false e =
-            let other : j ≡ i → ⊥ = eqb-false j i e in
-            getD-set-other ws (2 * i) (2 * j) w 0 (λ f. omega arith)
+    word j = elim (ℕ-discrete j i) [
+      | yes e ↦ rw (eq-eqb j i e, e) (getD-set-same ws (2 * i) w 0 (omega arith))
+      | no d ↦ rw (ne-eqb j i d) (getD-set-other ws (2 * i) (2 * j) w 0 (λ f. d (omega arith)))
+    ]
 
 gathered-at : (ws : List ℕ) (i : ℕ) → i < 4 → getD (gathered ws) i 0 ≡ getD ws (2 * i) 0
 unfolding gathered
@@ -41,10 +39,8 @@ module _ (ws : List ℕ) (q bit : ℕ) (eight : length ws ≡ 8) (low : q < 256)
       ≡ cond t (withState (gathered ws) q) (gathered ws)
   unfolding withState
   added true e =
-      rw (eqb-true bit 1 e, one-bit (q % 64) (omega arith), place) (gathered-set ws (q / 64) _ eight (omega arith))
-    where
-      place : getD ws (2 * (q / 64)) 0 ≡ getD (gathered ws) (q / 64) 0
-      place = sym (gathered-at ws (q / 64) (omega arith))
+      rw (eqb-true bit 1 e, one-bit (q % 64) (omega arith), ← gathered-at ws (q / 64) (omega arith))
+      (gathered-set ws (q / 64) _ eight (omega arith))
   added false e =
       let other : bit ≡ 1 → ⊥ = eqb-false bit 1 e in
       let none : bit ≡ 0 = omega arith in

@@ -1,4 +1,4 @@
--- `simulation::evaluation::evaluate` meets its contract: the nodes from the index on are still to be read.
+-- The nodes from the index on are still to be read.
 use borrow.Author.Needs.{needs}
 use native.Mathlib.Omega.{arith}
 use Prim.Native.Nat.{ℕ, _-_, _≤_}
@@ -7,7 +7,7 @@ use lib.ListN.{length}
 use Rattle.automaton.specs.Row.{rulesIn}
 use Rattle.trees.specs.Inner.{Evaluable}
 use Rattle.trees.proofs.evaluation.evaluate.Tie as tie
-use Rattle.trees.proofs.evaluation.Nodes.{Reading, reading-all, reading-none, reading-refused, reading-next}
+use Rattle.trees.proofs.evaluation.Nodes.{Reading, reading-begins, reading-ends, reading-refused, reading-next}
 use Rattle.trees.proofs.evaluation.evaluate.Statement.{statement}
 
 abbrev Inv-loop : tie.InvT-loop
@@ -22,7 +22,7 @@ abbrev start : tie.At-loop Inv-loop μ-loop → tie.Start Inv-loop μ-loop
 start c = c .before .before .before .before .before .before
 
 loop-holds : tie.Need-loop-holds Inv-loop μ-loop
-loop-holds c = (search needs, refl, λ k v. reading-all _ _ _ _)
+loop-holds c = (search needs, refl, λ k v. reading-begins _ _ _ _)
 
 step-requires : tie.Need-step-requires Inv-loop μ-loop
 step-requires c κs =
@@ -54,7 +54,7 @@ loop-again c =
     )
 
 returns-2 : tie.Need-returns-2 Inv-loop μ-loop
-returns-2 c = λ k v. reading-none _ _ _ (c .before .loop .inv .2 k v) (c .loop-test .left)
+returns-2 c = λ k v. reading-ends _ _ _ (c .before .loop .inv .2 k v) (c .loop-test .left)
 
 pub evaluate-spec : {M : Type 1} → statement M
 evaluate-spec =

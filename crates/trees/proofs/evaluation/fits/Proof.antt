@@ -1,4 +1,4 @@
--- `simulation::evaluation::fits` meets its contract: the number says whether the children before the index fit.
+-- The number says whether the children before the index fit.
 use borrow.Author.Needs.{needs}
 use native.Mathlib.Omega.{arith}
 use Prim.Native.Nat.{_-_, _≤_}
@@ -9,7 +9,7 @@ use lib.Seq.{take-all}
 use denote.Ref.{now}
 use Rattle.trees.specs.Inner.{inOrder}
 use Rattle.trees.proofs.evaluation.fits.Tie as tie
-use Rattle.trees.proofs.evaluation.NodeStates.{both-bits, in-order-next, in-order-one, in-order-two}
+use Rattle.trees.proofs.evaluation.NodeStates.{and-of-bits, in-order-one-more, in-order-one, in-order-two}
 use Rattle.trees.proofs.evaluation.fits.Statement.{statement}
 
 abbrev Inv-loop : tie.InvT-loop
@@ -29,7 +29,7 @@ returns-2 c =
     let first = c .before .before in
     let two = first .before .before in
     let a = two .before .before .before .before .args in
-    rw (c .bit-at3 .ensures, first .bit-at2 .ensures, both-bits, in-order-two (now (a .sets)) (now (a .children)) (two .if2 .taken))
+    rw (c .bit-at3 .ensures, first .bit-at2 .ensures, and-of-bits, in-order-two (now (a .sets)) (now (a .children)) (two .if2 .taken))
 
 loop-holds : tie.Need-loop-holds Inv-loop μ-loop
 unfolding inOrder
@@ -43,8 +43,8 @@ loop-again c =
       rw (
         c .bit-at4 .ensures,
         t .before .loop .inv .1,
-        both-bits,
-        in-order-next (now (a .sets)) (now (a .children)) _ (t .loop-test .taken),
+        and-of-bits,
+        in-order-one-more (now (a .sets)) (now (a .children)) _ (t .loop-test .taken),
       ),
     )
 

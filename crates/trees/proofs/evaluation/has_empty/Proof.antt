@@ -1,4 +1,4 @@
--- `simulation::evaluation::has_empty` meets its contract: no set before the index is empty.
+-- No set before the index is empty.
 use borrow.Author.Needs.{needs}
 use native.Mathlib.Omega.{arith}
 use native.Mathlib.Nat.{zero-add}

@@ -1,4 +1,4 @@
--- `simulation::evaluation::has_final` meets its contract: the two sets have a common state.
+-- The two sets have a common state.
 use borrow.Author.Needs.{needs}
 use Prim.Native.Nat.{ℕ}
 use mathlib.Core.Path.{_≡_}
@@ -6,13 +6,14 @@ use mir.Syntax.{w64}
 use mir.Val.{Fits}
 use lib.ListN.{getD}
 use denote.Ref.{now}
-use Rattle.sets.specs.Set.{meetOf}
+use Rattle.sets.specs.Set.{meetOf, statesIn}
 use Rattle.sets.specs.Entries.{entryAt}
 use Rattle.sets.proofs.StateSets.{common-state}
 use Rattle.trees.proofs.evaluation.has_final.Tie as tie
 use Rattle.trees.proofs.evaluation.has_final.Statement.{statement}
 
 returns : tie.Need-returns
+unfolding statesIn
 returns c =
     let m = c .before .before in
     let fits : (i : ℕ) → Fits w64 (getD (m .meet .result .words) i 0) = λ i. search (needs, m .meet .ok) in

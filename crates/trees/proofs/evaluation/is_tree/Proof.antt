@@ -1,17 +1,15 @@
--- `simulation::evaluation::is_tree` meets its contract: each return is one of the cases of `isTreeRecord`.
+-- Each return is one of the cases of `isTreeRecord`.
 use borrow.Author.Needs.{needs}
 use borrow.Author.Tests.{eq-eqb, ne-eqb}
 use native.Mathlib.Omega.{arith}
-use Prim.Native.Nat.{ℕ, _%_}
-use mathlib.Core.Path.{_≡_}
+use Prim.Native.Nat.{ℕ}
+use mathlib.Core.Path.{_≡_, sym, _∙_}
 use mathlib.Core.Logic.{⊎-elim}
 use mathlib.Core.Bool.{false}
 use mathlib.Core.List.{List, [], _∷_}
 use types.Run.{OneOf}
-use lib.ListN.{length}
-use lib.Dec.{eqb}
 use denote.Enum.Declared.{tagOf}
-use Rattle.records.specs.Record.{opened, bodyOf}
+use Rattle.records.specs.Record.{whole, opened}
 use Rattle.records.specs.Answers.{openingOf}
 use Rattle.records.specs.declared.record.Opened.{Opened}
 use Rattle.records.specs.declared.record.Opened.the-variants.{Record, End, Refused}
@@ -27,38 +25,39 @@ no-record b (Record kind end) e t = absurd (⊎-elim (λ h. omega arith) (λ h. 
 no-record b End e t = rw (← e)
 no-record b (Refused cause) e t = rw (← e)
 
-module _ (b : List ℕ) (o : Opened) (kind end : ℕ) (e : openingOf o ≡ opened b) (h : o ≡ Record kind end) where
-  other-kind : (kind ≡ 16 → ⊥) → false ≡ isTreeRecord (opened b) b
-  unfolding openingOf isTreeRecord
-  other-kind k = rw (← e, h, ne-eqb kind 16 k)
-
-  more-behind : kind ≡ 16 → (end ≡ length b → ⊥) → false ≡ isTreeRecord (opened b) b
-  unfolding openingOf isTreeRecord
-  more-behind k l = rw (← e, h, eq-eqb kind 16 k, ne-eqb end (length b) l)
-
-  by-length : kind ≡ 16 → end ≡ length b → (body : List ℕ) → body ≡ bodyOf b
-      → eqb (length body % 2) 0 ≡ isTreeRecord (opened b) b
-  unfolding openingOf isTreeRecord
-  by-length k l body is = rw (← e, h, eq-eqb kind 16 k, eq-eqb end (length b) l, is)
+told : (b : List ℕ) (o : Opened) (kind end : ℕ) → openingOf o ≡ opened b → o ≡ Record kind end → opened b ≡ whole kind end
+unfolding openingOf
+told b o kind end e is = sym e ∙ rw is
 
 returns : tie.Need-returns
 returns c = no-record _ _ (c .before .«open» .ensures) (c .match .keys2)
 
 returns-2 : tie.Need-returns-2
+unfolding isTreeRecord
 returns-2 c =
     let o = c .before .before in
-    other-kind _ _ _ _ (o .before .before .«open» .ensures) (o .o .given .1) (c .if1 .taken)
+    rw (told _ _ _ _ (o .before .before .«open» .ensures) (o .o .given .1), ne-eqb _ 16 (c .if1 .taken))
 
 returns-3 : tie.Need-returns-3
+unfolding isTreeRecord
 returns-3 c =
     let o = c .before .before .before in
-    more-behind _ _ _ _ (o .before .before .«open» .ensures) (o .o .given .1) (c .before .if1 .left) (c .if2 .taken)
+    rw (
+      told _ _ _ _ (o .before .before .«open» .ensures) (o .o .given .1),
+      eq-eqb _ 16 (c .before .if1 .left),
+      ne-eqb _ _ (c .if2 .taken),
+    )
 
 returns-4 : tie.Need-returns-4
+unfolding isTreeRecord
 returns-4 c =
     let o = c .before .before .before .before in
-    by-length _ _ _ _ (o .before .before .«open» .ensures) (o .o .given .1) (c .before .before .if1 .left) (c .before .if2 .left) _
-    (c .body .ensures)
+    rw (
+      told _ _ _ _ (o .before .before .«open» .ensures) (o .o .given .1),
+      eq-eqb _ 16 (c .before .before .if1 .left),
+      eq-eqb _ _ (c .before .if2 .left),
+      c .body .ensures,
+    )
 
 pub is-tree-spec : {M : Type 1} → statement M
 is-tree-spec =

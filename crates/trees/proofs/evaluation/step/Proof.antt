@@ -1,32 +1,31 @@
--- `simulation::evaluation::step` meets its contract: each return is one of the ways through `push`.
+-- Each return is one of the ways through `push`.
 use borrow.Author.Needs.{needs}
 use native.Mathlib.Omega.{arith}
 use Prim.Native.Nat.{_+_, _-_, _*_, _≤_}
-use mathlib.Core.Path.{_≡_, refl}
+use mathlib.Core.Path.{_≡_}
 use lib.ListN.{length, getD, length-drop}
 use Rattle.lists.proofs.Arrays.{part-to-end}
-use Rattle.trees.specs.Inner.{heightOf}
+use Rattle.trees.specs.Inner.{Stacked}
 use Rattle.trees.proofs.evaluation.step.Tie as tie
-use Rattle.trees.proofs.evaluation.Nodes.{push-symbol, push-shape, push-bound, stacked-refused, stacked-node, ranked-rules}
+use Rattle.trees.proofs.Postfix.{push-unknown, push-unbalanced, push-above-limit}
+use Rattle.trees.proofs.evaluation.Nodes.{stacked-node, rules-of-symbol-ranked}
 use Rattle.trees.proofs.evaluation.step.Statement.{statement}
 
 abbrev start : tie.After-slice-known → tie.Start
 start c = c .before .before .before .before
 
 returns : tie.Need-returns
-unfolding heightOf
-returns c = λ k v trees high represents. stacked-refused _ _ _ _ (push-symbol _ trees _ (c .if1 .taken)) refl
+unfolding Stacked
+returns c = λ k v trees high represents. push-unknown _ trees _ (c .if1 .taken)
 
 returns-2 : tie.Need-returns-2
-unfolding heightOf
-returns-2 c = λ k v trees high represents.
-    stacked-refused _ _ _ _ (push-shape _ trees _ (c .before .before .if1 .left) (rw high (c .if2 .taken))) refl
+unfolding Stacked
+returns-2 c = λ k v trees high represents. push-unbalanced _ trees _ (c .before .before .if1 .left) (rw high (c .if2 .taken))
 
 returns-3 : tie.Need-returns-3
-unfolding heightOf
+unfolding Stacked
 returns-3 c = λ k v trees high represents.
-    stacked-refused _ _ _ _
-    (push-bound _ trees _ (c .before .before .before .if1 .left) (rw high (c .before .if2 .left)) (rw high (c .if3 .taken))) refl
+    push-above-limit _ trees _ (c .before .before .before .if1 .left) (rw high (c .before .if2 .left)) (rw high (c .if3 .taken))
 
 rules-of-requires : tie.Need-rules-of-requires
 rules-of-requires c κs =
@@ -50,7 +49,7 @@ targets-requires c κs =
     let s = start (k .before) in
     let (n, v) = s .pre .0 in (
       rw (part-to-end (s .args .stack .now) _, length-drop) (omega (arith, s .pre .1 .1 (s .args .height) (omega arith) (s .pre .1 .0))),
-      rw (r .rules-of .ensures) (ranked-rules n _ _ _ v _ (k .if1 .left)),
+      rw (r .rules-of .ensures) (rules-of-symbol-ranked n _ _ _ v _ (k .if1 .left)),
     )
 
 put-entry-requires : tie.Need-put-entry-requires

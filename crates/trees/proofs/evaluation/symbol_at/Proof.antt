@@ -1,4 +1,4 @@
--- `simulation::evaluation::symbol_at` meets its contract: each of the two bytes is below 256.
+-- Each of the two bytes is below 256.
 use borrow.Author.Needs.{needs}
 use native.Mathlib.Omega.{arith}
 use native.Mathlib.Nat.{add-zero}

@@ -1,4 +1,4 @@
--- `simulation::evaluation::targets` meets its contract: the set has the targets of the rules before the index.
+-- The set has the targets of the rules before the index.
 use borrow.Author.Needs.{needs}
 use native.Mathlib.Omega.{arith}
 use Prim.Native.Nat.{ℕ, _-_, _≤_}
@@ -12,14 +12,14 @@ use Rattle.sets.specs.Inner.{Has}
 use Rattle.sets.proofs.StateSets.{member-empty}
 use Rattle.automaton.specs.Row.{ruleAt, Row}
 use Rattle.indexing.proofs.Indexing.{at-member}
-use Rattle.trees.specs.Inner.{inOrder, leadsTo, gathered}
+use Rattle.trees.specs.Inner.{inOrder, ruleGives, gathered}
 use Rattle.trees.proofs.evaluation.targets.Tie as tie
-use Rattle.trees.proofs.evaluation.NodeStates.{bit-most, no-targets, targets-next}
+use Rattle.trees.proofs.evaluation.NodeStates.{bit-at-most-one, no-targets-of-empty, targets-one-more}
 use Rattle.trees.proofs.evaluation.targets.Statement.{statement}
 
 abbrev Inv-loop : tie.InvT-loop
 Inv-loop rows numbers sets rank spread₀ j₀ spread j =
-    (j ≤ length numbers) × (length spread ≡ 8) × Has (gathered spread) (λ (q : ℕ). any (leadsTo rows sets q) (take j numbers))
+    (j ≤ length numbers) × (length spread ≡ 8) × Has (gathered spread) (λ (q : ℕ). any (ruleGives rows sets q) (take j numbers))
 
 abbrev μ-loop : tie.MeasureT-loop
 μ-loop rows numbers sets rank spread₀ j₀ spread j = length numbers - j
@@ -33,7 +33,7 @@ returns c =
     let k = h .before in
     let s = k .before .before .before in
     rw (c .empty .ensures)
-    (no-targets _ _ _ (s .args .rank) (s .pre .0) (λ i. k .before .before .shared-slice-known .given i .fits) (s .pre .1)
+    (no-targets-of-empty _ _ _ (s .args .rank) (s .pre .0) (λ i. k .before .before .shared-slice-known .given i .fits) (s .pre .1)
     (sym (h .has-empty .ensures) ∙ c .before .if1 .taken))
 
 loop-holds : tie.Need-loop-holds Inv-loop μ-loop
@@ -60,7 +60,7 @@ add-if-requires c κs =
     let t = f .before .before .before in (
       t .before .loop .inv .1,
       rw (f .fits2 .ensures)
-          (bit-most (inOrder (now (start (t .before) .args .sets)) (now (f .before .children-of-rank .result)))),
+          (bit-at-most-one (inOrder (now (start (t .before) .args .sets)) (now (f .before .children-of-rank .result)))),
     )
 
 loop-again : tie.Need-loop-again Inv-loop μ-loop
@@ -73,7 +73,7 @@ loop-again c =
       omega (arith, t .loop-test .taken),
       search (needs, a .add-if .kept, inv .1),
       rw (a .add-if .ensures, g .target-of .ensures)
-          (targets-next _ _ _ _ _ (t .loop-test .taken) (inv .2) _ (f .fits2 .ensures ∙ rw (f .before .children-of-rank .ensures))),
+          (targets-one-more _ _ _ _ _ (t .loop-test .taken) (inv .2) _ (f .fits2 .ensures ∙ rw (f .before .children-of-rank .ensures))),
     )
 
 returns-2 : tie.Need-returns-2 Inv-loop μ-loop

@@ -1,4 +1,4 @@
--- `simulation::checking::Counts::with` meets its contract: each answer has its count.
+-- Each answer has its count.
 use borrow.Author.Needs.{needs}
 use Rattle.trees.specs.Answers.{acceptanceOf}
 use Rattle.simulation.specs.Check.{counted}

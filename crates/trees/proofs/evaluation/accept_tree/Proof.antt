@@ -1,4 +1,4 @@
--- `simulation::evaluation::accept` meets its contract: each return is one of the ways through `judgeTree`.
+-- Each return is one of the ways through `judgeTree`.
 use borrow.Author.Needs.{needs}
 use borrow.Author.Tests.{not-true, not-false}
 use mathlib.Core.Path.{_≡_, sym, _∙_}
@@ -13,23 +13,24 @@ use Rattle.indexing.specs.Index.{keyOf}
 use Rattle.trees.specs.Answers.{acceptanceOf}
 use Rattle.trees.specs.Inner.{Evaluable}
 use Rattle.trees.specs.Postfix.{isTreeRecord}
-use Rattle.trees.proofs.evaluation.accept.Tie as tie
-use Rattle.trees.proofs.evaluation.Acceptance.{no-tree, too-many-nodes, tree-nodes, symbols-known, evaluable, finals-accept}
-use Rattle.trees.proofs.evaluation.accept.Statement.{statement}
+use Rattle.trees.proofs.evaluation.accept_tree.Tie as tie
+use Rattle.trees.proofs.evaluation.Acceptance.{not-a-tree-refused, many-nodes-refused, tree-of-nodes, symbols-known, evaluable}
+use Rattle.trees.proofs.evaluation.Acceptance.{finals-accept}
+use Rattle.trees.proofs.evaluation.accept_tree.Statement.{statement}
 
 abbrev start : tie.After-is-tree → tie.Start
 start c = c .before .before .before .before .before
 
 returns : tie.Need-returns
 unfolding acceptanceOf
-returns c = sym (no-tree _ _ (sym (c .before .is-tree .ensures) ∙ not-true _ (c .if1 .taken)))
+returns c = sym (not-a-tree-refused _ _ (sym (c .before .is-tree .ensures) ∙ not-true _ (c .if1 .taken)))
 
 is-record : (c : tie.Else1) → let b = now (start (c .before) .args .tree) in isTreeRecord (opened b) b ≡ true
 is-record c = sym (c .before .is-tree .ensures) ∙ not-false _ (c .if1 .left)
 
 returns-2 : tie.Need-returns-2
 unfolding acceptanceOf
-returns-2 c = sym (too-many-nodes _ _ (is-record (c .before .before)) _ (c .before .body .ensures) (c .if2 .taken))
+returns-2 c = sym (many-nodes-refused _ _ (is-record (c .before .before)) _ (c .before .body .ensures) (c .if2 .taken))
 
 index-rules-requires : tie.Need-index-rules-requires
 unfolding keyOf
@@ -61,11 +62,11 @@ returns-3 c =
     let b = i .before .before .before in
     let s = start (b .before .before) in
     c .accept-nodes .ensures _ (ready i)
-    ∙ sym (tree-nodes _ _ (is-record (b .before)) _ (b .body .ensures) (i .before .before .if2 .left) _
+    ∙ sym (tree-of-nodes _ _ (is-record (b .before)) _ (b .body .ensures) (i .before .before .if2 .left) _
     (finals-accept (s .args .size) (s .args .finals .words) _ _ (s .pre .1 .1)))
 
-pub accept-spec : {M : Type 1} → statement M
-accept-spec =
+pub accept-tree-spec : {M : Type 1} → statement M
+accept-tree-spec =
     tie.close
     (tie.spec (λ c κs. search needs) returns (λ c κs. search needs) returns-2 index-rules-requires
     (λ c. sym (length-take-le _ _ (start (c .before .before .before .before .before .before .before .before) .pre .0 .0)))

@@ -1,12 +1,12 @@
--- `simulation::checking::answer_in` meets its contract: a table that is not refused holds its automaton.
+-- A table that is not refused holds its automaton.
 use borrow.Author.Needs.{needs}
 use mathlib.Core.Path.{_∙_}
 use denote.Ref.{now}
 use Rattle.automaton.proofs.Held.{Held, decoded-held, decoded-writable}
 use Rattle.trees.specs.Answers.{acceptanceOf}
-use Rattle.simulation.proofs.checking.answer_in.Tie as tie
-use Rattle.simulation.proofs.Acceptance.{table-refused, held-index, held-acceptance}
-use Rattle.simulation.proofs.checking.answer_in.Statement.{statement}
+use Rattle.simulation.proofs.checking.check_tree_in.Tie as tie
+use Rattle.simulation.proofs.Acceptance.{table-refused, held-index-room, held-acceptance}
+use Rattle.simulation.proofs.checking.check_tree_in.Statement.{statement}
 
 abbrev decoded : tie.After-finals → tie.After-decode
 decoded c = c .before .before .before .before .before
@@ -24,20 +24,20 @@ held : (c : tie.After-known-told2)
     Held (now (lent f .before .args .table)) (c .before .judged2 .given .0 .0) (d .result .finals .words) (d .last .1 .0) (d .last .1 .1 .0)
 held c = decoded-held _ _ _ _ _ (decoded (c .before .before .before) .decode .ensures) (c .before .judged2 .given .1)
 
-accept-requires : tie.Need-accept-requires
-accept-requires c κs =
+accept-tree-requires : tie.Need-accept-tree-requires
+accept-tree-requires c κs =
     let t = c .before .before .before in
     let f = t .before .before .before in
     let (symbols, writable) = decoded-writable _ _ _ _ _ (decoded f .decode .ensures) (t .before .judged2 .given .1) in
-    ((symbols, held-index (held t) (λ i. lent f .shared-slice-known .given i .fits) _ (lent f .before .pre .1 .1)), writable)
+    ((symbols, held-index-room (held t) (λ i. lent f .shared-slice-known .given i .fits) _ (lent f .before .pre .1 .1)), writable)
 
 returns-2 : tie.Need-returns-2
 returns-2 c =
     let a = c .before .before in
-    a .accept .ensures ∙ held-acceptance (held (a .before .before .before .before)) _
+    a .accept-tree .ensures ∙ held-acceptance (held (a .before .before .before .before)) _
 
-pub answer-in-spec : {M : Type 1} → statement M
-answer-in-spec =
+pub check-tree-in-spec : {M : Type 1} → statement M
+check-tree-in-spec =
     tie.close
-    (tie.spec (λ c κs. search needs) (λ c. search needs) (λ c. search needs) accept-requires (λ c. search needs) (λ c. search needs)
+    (tie.spec (λ c κs. search needs) (λ c. search needs) (λ c. search needs) accept-tree-requires (λ c. search needs) (λ c. search needs)
     returns (λ c. search needs) (λ c. search needs) (λ c. search needs) returns-2)
