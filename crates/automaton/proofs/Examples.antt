@@ -5,14 +5,14 @@ use native.Mathlib.Omega.{arith}
 use mathlib.Core.Path.{_≡_, refl}
 use mathlib.Core.List.{List, [], _∷_, _++_}
 use lib.ListN.{length, take, replicate}
-use Rattle.lists.specs.Lists.{all, rising, risingFrom, from}
+use Rattle.lists.specs.Lists.{all, rising, from}
 use Rattle.lists.proofs.Ranges.{replicate-all, from-low, from-rising}
 use Rattle.records.specs.Read.{found, refused, _>>=_, _>>_, check}
 use Rattle.records.specs.Bytes.{number2, number4, numbers, bytes2, bytes4, fields}
-use Rattle.records.specs.Record.{endOf, isWhole, opened, bodyIn, bodyOf, encodeRecord}
+use Rattle.records.specs.Record.{endOf, isWhole, opened, bodyOf, encodeRecord}
 use Rattle.automaton.specs.Automaton.{Rule, Automaton, WellFormedRule, WellFormed}
-use Rattle.automaton.specs.Table.{dueIn, due, ruleIn, judgeRule, judgeRules, judgeFinals, judgeRanks, judge, encodeRule, encodeRules}
-use Rattle.automaton.specs.Table.{encode}
+use Rattle.automaton.specs.Table.{due, judgeRecord, sizeIn, judgeSize, judgeRanks, judgeFinals, ruleIn, judgeRule, judgeRules}
+use Rattle.automaton.specs.Table.{judgeFromFinals, judgeFromRanks, judge, encodeRule, encodeRules, encode}
 use Rattle.automaton.proofs.Theorems.{judge-encoded}
 
 abbrev pub rule : ℕ → ℕ → List ℕ → Rule
@@ -34,8 +34,8 @@ T-encoded = (refl, refl)
 
 -- The whole table, and the table without its last byte.
 pub T-judged : (judge (encode T) ≡ found T) × (judge (take 124 (encode T)) ≡ refused 1)
-unfolding encode encodeRules encodeRule encodeRecord fields bytes2 bytes4 judge judgeRanks judgeFinals judgeRules judgeRule
-    ruleIn due dueIn opened isWhole endOf bodyIn bodyOf number2 number4 numbers all rising risingFrom _>>=_ _>>_ check
+unfolding encode encodeRules encodeRule encodeRecord fields bytes2 bytes4 judge judgeFromRanks judgeFromFinals judgeRules judgeRecord
+    judgeSize judgeRanks judgeFinals judgeRule sizeIn ruleIn due opened isWhole endOf bodyOf number2 number4 numbers all rising _>>=_ _>>_ check
 T-judged = (refl, refl)
 
 pub shortest : Automaton
@@ -46,8 +46,8 @@ unfolding shortest encode encodeRules encodeRecord fields bytes2 bytes4
 shortest-length = refl
 
 pub shortest-judged : judge (encode shortest) ≡ found shortest
-unfolding shortest encode encodeRules encodeRecord fields bytes2 bytes4 judge judgeRanks judgeFinals judgeRules
-    due dueIn opened isWhole endOf bodyIn bodyOf number2 number4 numbers all rising _>>=_ _>>_ check
+unfolding shortest encode encodeRules encodeRecord fields bytes2 bytes4 judge judgeFromRanks judgeFromFinals judgeRules judgeRecord
+    judgeSize judgeRanks judgeFinals sizeIn due opened isWhole endOf bodyOf number2 number4 numbers all rising _>>=_ _>>_ check
 shortest-judged = refl
 
 abbrev longestRule : Rule
@@ -113,8 +113,9 @@ pub record Order : Type 0 where
   pub states-before-too-few : judge (withRule 2 (fields (0 ∷ 1 ∷ []))) ≡ refused 5
 
 pub order : Order
-unfolding judge judgeRanks judgeFinals judgeRules judgeRule due dueIn opened isWhole endOf bodyIn bodyOf
-    number2 number4 numbers encodeRecord fields bytes2 bytes4 all rising risingFrom check _>>=_ _>>_
+unfolding judge judgeFromRanks judgeFromFinals judgeRules judgeRecord judgeSize judgeRanks judgeFinals judgeRule sizeIn ruleIn due
+    opened isWhole endOf bodyOf
+    number2 number4 numbers encodeRecord fields bytes2 bytes4 all rising check _>>=_ _>>_
 order = record {
   broken-before-kind = refl;
   kind-before-length = refl;

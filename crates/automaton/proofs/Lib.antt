@@ -1,4 +1,4 @@
-pub mod Inversion
+pub mod Checked
 pub mod Encoding
 pub mod Rows
 pub mod Held

@@ -1,7 +1,6 @@
 -- Decoded rules in a lent array of bytes: `width` bytes to a rule, its symbol, its target, the number of its children and its at most eight
 -- children.
 use Prim.Native.Nat.{ℕ, _+_, _*_, _≤_, _<_}
-use mathlib.Core.Path.{_≡_}
 use mathlib.Core.List.{List, map}
 use lib.ListN.{length, take, drop, getD}
 use Rattle.lists.specs.Lists.{from}
@@ -30,10 +29,3 @@ pub record Row (rows : List ℕ) (i : ℕ) : Type 0 where
 pub record Rows (rows : List ℕ) (k : ℕ) : Type 0 where
   pub count : k ≤ 1024
   pub row : (i : ℕ) → i < k → Row rows i
-
--- Row i is made to hold u; the other rows hold what they held.
-pub record Puts (rows rows′ : List ℕ) (i : ℕ) (u : Rule) : Type 0 where
-  pub as-long : length rows′ ≡ length rows
-  pub row : Row rows′ i
-  pub holds : ruleAt rows′ i ≡ u
-  pub others : (j : ℕ) → (j ≡ i → ⊥) → Row rows j → Row rows′ j × (ruleAt rows′ j ≡ ruleAt rows j)

@@ -4,7 +4,7 @@ ghost use mathlib.Core.List.{List};
 ghost use Prim.Native.Nat.{ℕ, _≤_, _<_};
 ghost use lib.ListN.{length};
 ghost use Rattle.lists.specs.Lists.{All};
-ghost use Rattle.sets.specs.Set.{setOf};
+ghost use Rattle.sets.specs.Inner.{setOf};
 ghost use Rattle.records.specs.Bytes.{numbers};
 ghost use Rattle.records.specs.Read.{found};
 ghost use Rattle.automaton.specs.Table as table;
@@ -19,8 +19,8 @@ use crate::table::Size;
 use crate::table::Verdict;
 use crate::table::finals_end;
 use crate::table::judge_end;
-use crate::table::next_rule;
 use crate::table::ranks_end;
+use crate::table::rule_end;
 use crate::table::size_end;
 use crate::table::size_in;
 use records::Refusal;
@@ -61,7 +61,7 @@ fn decode_rules(t: &[u8], n: usize, ranks: &[u8], k: usize, rows: &mut [u8]) -> 
     let mut rest = t;
     let mut i: usize = 0;
     while i < k {
-        match next_rule(rest, n, ranks) {
+        match rule_end(rest, n, ranks) {
             Place::Refused(cause) => return Verdict::Refused(cause),
             Place::At(end) => {
                 put_row(body(rest), rows, i);
@@ -83,12 +83,12 @@ fn refused(cause: Refusal) -> Decoded
     }
 }
 
-// The record of the final states, and the rules after it.
-fn decode_finals(t: &[u8], size: Size, ranks: &[u8], rows: &mut [u8]) -> Decoded
+// The table from its final states on.
+fn decode_from_finals(t: &[u8], size: Size, ranks: &[u8], rows: &mut [u8]) -> Decoded
     requires { ⌜ (size .states ≤ 256) × ((size .symbols ≡ length (now ranks)) × (size .rules ≤ 1024)) ⌝ }
     requires { ⌜ (length (now ranks) ≤ 256) × All (λ (r : ℕ). r ≤ 8) (now ranks) ⌝ }
     requires { ⌜ RowsRoom (now t) (now rows) ⌝ }
-    ensures { λ r. ⌜ Decodes (table.judgeFinals (size .states) (now (ranks .entry)) (size .rules) (now (t .entry))) r
+    ensures { λ r. ⌜ Decodes (table.judgeFromFinals size (now (ranks .entry)) (now (t .entry))) r
         (now (ranks .entry)) (now (rows .exit)) ⌝ }
 {
     let end = match finals_end(t, size.states) {
@@ -104,11 +104,11 @@ fn decode_finals(t: &[u8], size: Size, ranks: &[u8], rows: &mut [u8]) -> Decoded
     }
 }
 
-// The record of the ranks, and what is after it.
-fn decode_ranks(t: &[u8], size: Size, ranks: &mut [u8], rows: &mut [u8]) -> Decoded
+// The table from its ranks on.
+fn decode_from_ranks(t: &[u8], size: Size, ranks: &mut [u8], rows: &mut [u8]) -> Decoded
     requires { ⌜ (size .states ≤ 256) × ((size .symbols ≤ 256) × (size .rules ≤ 1024)) ⌝ }
     requires { ⌜ (256 ≤ length (now ranks)) × RowsRoom (now t) (now rows) ⌝ }
-    ensures { λ r. ⌜ Decodes (table.judgeRanks (size .states) (size .symbols) (size .rules) (now (t .entry))) r
+    ensures { λ r. ⌜ Decodes (table.judgeFromRanks size (now (t .entry))) r
         (now (ranks .exit)) (now (rows .exit)) ⌝ }
 {
     match ranks_end(t, size.symbols) {
@@ -116,7 +116,7 @@ fn decode_ranks(t: &[u8], size: Size, ranks: &mut [u8], rows: &mut [u8]) -> Deco
         Place::At(end) => {
             let b = body(t);
             put_bytes(ranks, 0, b, b.len());
-            decode_finals(&t[end..], size, b, rows)
+            decode_from_finals(&t[end..], size, b, rows)
         }
     }
 }
@@ -129,6 +129,6 @@ pub fn decode(t: &[u8], ranks: &mut [u8], rows: &mut [u8]) -> Decoded
 {
     match size_end(t) {
         Place::Refused(cause) => refused(cause),
-        Place::At(end) => decode_ranks(&t[end..], size_in(body(t)), ranks, rows),
+        Place::At(end) => decode_from_ranks(&t[end..], size_in(body(t)), ranks, rows),
     }
 }

@@ -4,8 +4,8 @@ ghost use Prim.Native.Nat.{ℕ, _+_, _*_, _≤_, _<_};
 ghost use lib.ListN.{length, getD};
 ghost use Rattle.automaton.specs.Automaton.{renamed};
 ghost use Rattle.automaton.specs.Table.{ruleIn};
-ghost use Rattle.automaton.specs.Row.{width, ruleAt, Row, Puts};
-ghost use Rattle.automaton.specs.Inner.{RuleBody};
+ghost use Rattle.automaton.specs.Row.{width, ruleAt, Row};
+ghost use Rattle.automaton.specs.Inner.{RuleBody, Puts};
 
 // The bytes of a rule: its symbol, its target, the number of its children, and room for eight children.
 pub const WIDTH: usize = 11;

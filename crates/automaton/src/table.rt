@@ -1,18 +1,18 @@
 // Tables, judged record by record.
 ghost use mathlib.Core.Path.{_≡_};
-ghost use mathlib.Core.List.{[]};
+ghost use mathlib.Core.List.{List};
 ghost use Prim.Native.Nat.{ℕ, _≤_};
 ghost use lib.ListN.{length};
 ghost use lib.Dec.{leb, ltb};
 ghost use Rattle.lists.specs.Lists as lists;
+ghost use Rattle.records.specs.Bytes.{numbers};
+ghost use Rattle.records.specs.Record.{opened};
 ghost use Rattle.records.specs.Read as read;
 ghost use Rattle.records.specs.Refusal.{numberOf};
-ghost use Rattle.records.specs.Bytes.{numbers};
-ghost use Rattle.records.specs.Record.{bodyOf};
 ghost use Rattle.automaton.specs.Table as table;
 ghost use Rattle.automaton.specs.Answers.{judgementOf};
 ghost use Rattle.automaton.specs.Decoded.{sized};
-ghost use Rattle.automaton.specs.Inner.{passing, placeOf, verdictOf, sizeEnd, ranksEnd, finalsEnd, sizeIn};
+ghost use Rattle.automaton.specs.Inner.{passing, placeOf, verdictOf};
 use records::Opened;
 use records::Refusal;
 use records::body;
@@ -45,8 +45,8 @@ pub enum Verdict {
 }
 
 // Where the next record ends, if it is of the kind that is due; `missing` where nothing is left.
-pub fn due(t: &[u8], kind: u16, missing: Refusal) -> Place
-    ensures { λ r. ⌜ placeOf r ≡ table.due kind (numberOf missing) (now (t .entry)) ⌝ }
+fn due(t: &[u8], kind: u16, missing: Refusal) -> Place
+    ensures { λ r. ⌜ placeOf r ≡ table.due kind (numberOf missing) (opened (now (t .entry))) ⌝ }
 {
     let o = open(t);
     let Opened::Record { kind: k, end } = o else {
@@ -109,9 +109,70 @@ fn all_ranks(b: &[u8]) -> bool
     true
 }
 
-// A rule's body.
+// The counts in the first record's body.
+pub fn size_in(b: &[u8]) -> Size
+    requires { ⌜ 6 ≤ length (now b) ⌝ }
+    ensures { λ r. ⌜ r ≡ table.sizeIn (now (b .entry)) ⌝ }
+{
+    Size {
+        states: number2(b, 0) as usize,
+        symbols: number2(b, 2) as usize,
+        rules: number2(b, 4) as usize,
+    }
+}
+
+// The body of the first record: the counts.
+fn judge_size(b: &[u8]) -> Verdict
+    ensures { λ r. ⌜ verdictOf r ≡ table.judgeSize (now (b .entry)) ⌝ }
+{
+    if b.len() != 6 {
+        return Verdict::Refused(Refusal::WrongLength);
+    }
+    let size = size_in(b);
+    if size.states > 256 {
+        return Verdict::Refused(Refusal::AboveLimit);
+    }
+    if size.symbols > 256 {
+        return Verdict::Refused(Refusal::AboveLimit);
+    }
+    if size.rules > 1024 {
+        return Verdict::Refused(Refusal::AboveLimit);
+    }
+    Verdict::Passed
+}
+
+// The body of the second record: the ranks of m symbols.
+fn judge_ranks(b: &[u8], m: usize) -> Verdict
+    ensures { λ r. ⌜ verdictOf r ≡ table.judgeRanks m (now (b .entry)) ⌝ }
+{
+    if b.len() != m {
+        return Verdict::Refused(Refusal::WrongLength);
+    }
+    if !all_ranks(b) {
+        return Verdict::Refused(Refusal::AboveLimit);
+    }
+    Verdict::Passed
+}
+
+// The body of the third record: the final states, of n.
+fn judge_finals(b: &[u8], n: usize) -> Verdict
+    ensures { λ r. ⌜ verdictOf r ≡ table.judgeFinals n (now (b .entry)) ⌝ }
+{
+    if b.len() % 2 != 0 {
+        return Verdict::Refused(Refusal::WrongLength);
+    }
+    if !all_below(b, n) {
+        return Verdict::Refused(Refusal::OutOfRange);
+    }
+    if !rising(b) {
+        return Verdict::Refused(Refusal::FinalsOutOfOrder);
+    }
+    Verdict::Passed
+}
+
+// The body of a rule.
 fn judge_rule(b: &[u8], n: usize, ranks: &[u8]) -> Verdict
-    ensures { λ r. ⌜ verdictOf r ≡ passing (table.judgeRule n (now (ranks .entry)) (now (b .entry))) ⌝ }
+    ensures { λ r. ⌜ verdictOf r ≡ table.judgeRule n (now (ranks .entry)) (now (b .entry)) ⌝ }
 {
     if b.len() < 4 {
         return Verdict::Refused(Refusal::WrongLength);
@@ -130,24 +191,63 @@ fn judge_rule(b: &[u8], n: usize, ranks: &[u8]) -> Verdict
     Verdict::Passed
 }
 
-// The next rule: where it ends.
-pub fn next_rule(t: &[u8], n: usize, ranks: &[u8]) -> Place
-    ensures { λ r. ⌜ placeOf r ≡ read._>>=_ (table.due 4 7 (now (t .entry)))
-        (λ (end : ℕ). read._>>_ (table.judgeRule n (now (ranks .entry)) (bodyOf (now (t .entry)))) (read.found end)) ⌝ }
+// The end of a record, if its body passes.
+fn end_if(verdict: Verdict, end: usize) -> Place
+    ensures { λ r. ⌜ placeOf r ≡ read._>>_ (verdictOf verdict) (read.found end) ⌝ }
 {
-    let p = due(t, 4, Refusal::WrongRuleCount);
-    let Place::At(end) = p else {
-        return p;
-    };
-    match judge_rule(body(t), n, ranks) {
+    match verdict {
         Verdict::Refused(cause) => Place::Refused(cause),
         Verdict::Passed => Place::At(end),
     }
 }
 
+// The record of the counts: where it ends.
+pub fn size_end(t: &[u8]) -> Place
+    ensures { λ r. ⌜ placeOf r ≡ table.judgeRecord 1 2 table.judgeSize (now (t .entry)) ⌝ }
+{
+    let p = due(t, 1, Refusal::WrongKind);
+    let Place::At(end) = p else {
+        return p;
+    };
+    end_if(judge_size(body(t)), end)
+}
+
+// The record of the ranks of m symbols: where it ends.
+pub fn ranks_end(t: &[u8], m: usize) -> Place
+    ensures { λ r. ⌜ placeOf r ≡ table.judgeRecord 2 2 (table.judgeRanks m) (now (t .entry)) ⌝ }
+{
+    let p = due(t, 2, Refusal::WrongKind);
+    let Place::At(end) = p else {
+        return p;
+    };
+    end_if(judge_ranks(body(t), m), end)
+}
+
+// The record of the final states: where it ends.
+pub fn finals_end(t: &[u8], n: usize) -> Place
+    ensures { λ r. ⌜ placeOf r ≡ table.judgeRecord 3 2 (table.judgeFinals n) (now (t .entry)) ⌝ }
+{
+    let p = due(t, 3, Refusal::WrongKind);
+    let Place::At(end) = p else {
+        return p;
+    };
+    end_if(judge_finals(body(t), n), end)
+}
+
+// The record of the next rule: where it ends.
+pub fn rule_end(t: &[u8], n: usize, ranks: &[u8]) -> Place
+    ensures { λ r. ⌜ placeOf r ≡ table.judgeRecord 4 7 (table.judgeRule n (now (ranks .entry))) (now (t .entry)) ⌝ }
+{
+    let p = due(t, 4, Refusal::WrongRuleCount);
+    let Place::At(end) = p else {
+        return p;
+    };
+    end_if(judge_rule(body(t), n, ranks), end)
+}
+
 // What stands after the last rule: nothing, or a cause of refusal.
 pub fn judge_end(t: &[u8]) -> Verdict
-    ensures { λ r. ⌜ verdictOf r ≡ passing (table.judgeRules 0 [] 0 (now (t .entry))) ⌝ }
+    ensures { λ r. ⌜ ((n : ℕ) (ranks : List ℕ) → verdictOf r ≡ passing (table.judgeRules n ranks 0 (now (t .entry)))) ⌝ }
 {
     if t.len() == 0 {
         return Verdict::Passed;
@@ -165,7 +265,7 @@ fn judge_rules(t: &[u8], n: usize, ranks: &[u8], k: usize) -> Verdict
     let mut rest = t;
     let mut left = k;
     while left > 0 {
-        match next_rule(rest, n, ranks) {
+        match rule_end(rest, n, ranks) {
             Place::Refused(cause) => return Verdict::Refused(cause),
             Place::At(end) => {
                 rest = &rest[end..];
@@ -176,99 +276,23 @@ fn judge_rules(t: &[u8], n: usize, ranks: &[u8], k: usize) -> Verdict
     judge_end(rest)
 }
 
-// The record of the final states by itself: where it ends.
-pub fn finals_end(t: &[u8], n: usize) -> Place
-    ensures { λ r. ⌜ placeOf r ≡ finalsEnd n (now (t .entry)) ⌝ }
+// The table from its final states on.
+fn judge_from_finals(t: &[u8], size: Size, ranks: &[u8]) -> Verdict
+    ensures { λ r. ⌜ verdictOf r ≡ passing (table.judgeFromFinals size (now (ranks .entry)) (now (t .entry))) ⌝ }
 {
-    let p = due(t, 3, Refusal::WrongKind);
-    let Place::At(end) = p else {
-        return p;
-    };
-    let b = body(t);
-    if b.len() % 2 != 0 {
-        return Place::Refused(Refusal::WrongLength);
-    }
-    if !all_below(b, n) {
-        return Place::Refused(Refusal::OutOfRange);
-    }
-    if !rising(b) {
-        return Place::Refused(Refusal::FinalsOutOfOrder);
-    }
-    Place::At(end)
-}
-
-// The record of the ranks of m symbols by itself: where it ends.
-pub fn ranks_end(t: &[u8], m: usize) -> Place
-    ensures { λ r. ⌜ placeOf r ≡ ranksEnd m (now (t .entry)) ⌝ }
-{
-    let p = due(t, 2, Refusal::WrongKind);
-    let Place::At(end) = p else {
-        return p;
-    };
-    let ranks = body(t);
-    if ranks.len() != m {
-        return Place::Refused(Refusal::WrongLength);
-    }
-    if !all_ranks(ranks) {
-        return Place::Refused(Refusal::AboveLimit);
-    }
-    Place::At(end)
-}
-
-// The record of the counts by itself: where it ends.
-pub fn size_end(t: &[u8]) -> Place
-    ensures { λ r. ⌜ placeOf r ≡ sizeEnd (now (t .entry)) ⌝ }
-{
-    let p = due(t, 1, Refusal::WrongKind);
-    let Place::At(end) = p else {
-        return p;
-    };
-    let b = body(t);
-    if b.len() != 6 {
-        return Place::Refused(Refusal::WrongLength);
-    }
-    let size = size_in(b);
-    if size.states > 256 {
-        return Place::Refused(Refusal::AboveLimit);
-    }
-    if size.symbols > 256 {
-        return Place::Refused(Refusal::AboveLimit);
-    }
-    if size.rules > 1024 {
-        return Place::Refused(Refusal::AboveLimit);
-    }
-    Place::At(end)
-}
-
-// The counts in the first record's body.
-pub fn size_in(b: &[u8]) -> Size
-    requires { ⌜ 6 ≤ length (now b) ⌝ }
-    ensures { λ r. ⌜ r ≡ sizeIn (now (b .entry)) ⌝ }
-{
-    Size {
-        states: number2(b, 0) as usize,
-        symbols: number2(b, 2) as usize,
-        rules: number2(b, 4) as usize,
-    }
-}
-
-// The record of the final states, and the rules after it.
-fn judge_finals(t: &[u8], n: usize, ranks: &[u8], k: usize) -> Verdict
-    ensures { λ r. ⌜ verdictOf r ≡ passing (table.judgeFinals n (now (ranks .entry)) k (now (t .entry))) ⌝ }
-{
-    match finals_end(t, n) {
+    match finals_end(t, size.states) {
         Place::Refused(cause) => Verdict::Refused(cause),
-        Place::At(end) => judge_rules(&t[end..], n, ranks, k),
+        Place::At(end) => judge_rules(&t[end..], size.states, ranks, size.rules),
     }
 }
 
-// The record of the ranks, and what is after it.
-fn judge_ranks(t: &[u8], size: Size) -> Verdict
-    ensures { λ r. ⌜ verdictOf r ≡ passing (table.judgeRanks (size .states) (size .symbols) (size .rules) (now (t .entry))) ⌝ }
+// The table from its ranks on.
+fn judge_from_ranks(t: &[u8], size: Size) -> Verdict
+    ensures { λ r. ⌜ verdictOf r ≡ passing (table.judgeFromRanks size (now (t .entry))) ⌝ }
 {
     match ranks_end(t, size.symbols) {
         Place::Refused(cause) => Verdict::Refused(cause),
-        Place::At(end) => judge_finals(&t[end..], size.states, body(t), size.rules),
+        Place::At(end) => judge_from_finals(&t[end..], size, body(t)),
     }
 }
 
@@ -281,7 +305,7 @@ pub fn judge(t: &[u8]) -> Judged
         Place::At(end) => end,
     };
     let size = size_in(body(t));
-    match judge_ranks(&t[end..], size) {
+    match judge_from_ranks(&t[end..], size) {
         Verdict::Refused(cause) => Judged::Refused(cause),
         Verdict::Passed => Judged::Table(size),
     }

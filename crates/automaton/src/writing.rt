@@ -1,12 +1,12 @@
 // A decoded table written back into bytes. Each function that writes says which bytes stand where afterwards; the others stay.
 ghost use mathlib.Core.Path.{_≡_};
-ghost use mathlib.Core.List.{_∷_, [], _++_};
+ghost use mathlib.Core.List.{_∷_, []};
 ghost use Prim.Native.Nat.{_+_, _*_, _≤_, _<_};
 ghost use lib.ListN.{length, take};
 ghost use Rattle.lists.specs.Lists.{from, keep};
 ghost use Rattle.lists.specs.Over.{over};
 ghost use Rattle.sets.specs.Set.{member};
-ghost use Rattle.records.specs.Bytes.{bytes2, bytes4, fields};
+ghost use Rattle.records.specs.Bytes.{fields};
 ghost use Rattle.records.specs.Record.{encodeRecord};
 ghost use Rattle.records.specs.Output.{written, writtenOver};
 ghost use Rattle.automaton.specs.Automaton.{WellFormed};

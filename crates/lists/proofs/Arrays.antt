@@ -1,4 +1,4 @@
--- An array that is filled from the front: one element more, and one fewer of the rest.
+-- An array that is filled from the front, as loops do it, and a part of an array up to its end. From the laws of `set`, `take` and `drop`.
 use Prim.Native.Nat.{ℕ, _+_, _-_, _≤_, _<_}
 use native.Mathlib.Nat.{le-refl, eq-or-lt-of-le}
 use native.Mathlib.Omega.{arith}

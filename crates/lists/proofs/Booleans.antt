@@ -1,4 +1,5 @@
--- Two tests joined: what is so of each, and back. A test is its own negation's opposite, and tests that pass the same are equal.
+-- Tests joined by `and`, `or` and `not`: when the whole passes and when it fails, from when the parts do, and back (`-in`, `-out`). By cases on
+-- the tests. The searches of this crate and most proofs above use it.
 use mathlib.Core.Path.{_≡_, refl, sym}
 use mathlib.Core.Bool.{Bool, true, false, false≢true, not, true≢false, _&&_, _||_}
 use mathlib.Core.Logic.{_⊎_, inl, inr}
@@ -46,17 +47,17 @@ pub never-true : {t : Bool} → (t ≡ true → ⊥) → t ≡ false
 never-true {t = true} h = absurd (h refl)
 never-true {t = false} h = refl
 
-pub not-in : {t : Bool} → (t ≡ true → ⊥) → not t ≡ true
-not-in h = rw (never-true h)
+pub not-true-in : {t : Bool} → (t ≡ true → ⊥) → not t ≡ true
+not-true-in h = rw (never-true h)
 
-pub not-out : {t : Bool} → not t ≡ true → t ≡ true → ⊥
-not-out {t = true} h e = true≢false (sym h)
-not-out {t = false} h e = true≢false (sym e)
+pub not-true-out : {t : Bool} → not t ≡ true → t ≡ true → ⊥
+not-true-out {t = true} h e = true≢false (sym h)
+not-true-out {t = false} h e = true≢false (sym e)
 
+-- What follows a test that passes, and what matters only where it passes.
 pub and-left : {s : Bool} (t : Bool) → s ≡ true → (s && t) ≡ t
 and-left t h = rw h
 
--- Two tests of the members.
 pub and-same : {a b : Bool} (t : Bool) → (t ≡ true → a ≡ b) → (t && a) ≡ (t && b)
 and-same true same = same refl
 and-same false same = refl

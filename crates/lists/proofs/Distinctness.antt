@@ -1,4 +1,5 @@
--- Lists without repeats: what is kept of one, renamed one to one, or joined with another, has none either.
+-- Lists without repeats: what is kept of one, renamed one to one, or joined with another, has none either. By induction on the list; used for rules
+-- and pairs of which none stands twice.
 use mathlib.Core.Path.{_≡_, refl, sym}
 use mathlib.Core.Logic.{_⊎_, inl, inr}
 use mathlib.Core.List.{List, _∷_, _++_, map, List·Memᴰ, List·Memᴰ·head, List·Memᴰ·tail, Memᴰ·cast, Memᴰ·of-map, List·Memᴰ·append-cases}

@@ -1,13 +1,15 @@
--- What holds of all elements of a list: of each, and carried over from one property to another.
+-- What holds of all elements of a list: of each by place or by membership, carried over to another property or list, and as a test. By induction
+-- on the list; used wherever a definition says `All`.
 use Prim.Native.Nat.{ℕ, zero, suc, _<_}
 use native.Mathlib.Omega.{arith}
 use mathlib.Core.Path.{_≡_, refl, subst⁻¹}
 use mathlib.Core.List.{List, [], _∷_, map, List·Memᴰ, List·Memᴰ·head, List·Memᴰ·tail, _++_, reverseAux}
-use mathlib.Core.Bool.{Bool, true, and-eq-true-iff}
+use mathlib.Core.Bool.{Bool, true}
 use lib.ListN.{length, drop, getD, take}
 use lib.Dec.{ltb}
 use borrow.Author.Tests.{ltb-true, lt-ltb}
 use Rattle.lists.specs.Lists.{All, none, also, all}
+use Rattle.lists.proofs.Booleans.{and-true-out}
 
 pub all-map : {A : Type 0} {P Q : A → Type 0} {xs : List A} → ((x : A) → P x → Q x) → All P xs → All Q xs
 all-map f none = none
@@ -40,7 +42,7 @@ module _ (t : ℕ → Bool) (P : ℕ → Type 0) where
   pub all→All : ((x : ℕ) → t x ≡ true → P x) → (xs : List ℕ) → all t xs ≡ true → All P xs
   unfolding all
   all→All f [] h = none
-  all→All f (x ∷ xs) h = let c = and-eq-true-iff (t x) (all t xs) .0 h in also (f x (c .0)) (all→All f xs (c .1))
+  all→All f (x ∷ xs) h = let c = and-true-out (t x) (all t xs) h in also (f x (c .0)) (all→All f xs (c .1))
 
   pub All→all : ((x : ℕ) → P x → t x ≡ true) → {xs : List ℕ} → All P xs → all t xs ≡ true
   unfolding all

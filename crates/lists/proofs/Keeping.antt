@@ -1,4 +1,5 @@
--- What is kept of a list: its members, its length, and keeping of what was kept, mapped or joined.
+-- What is kept of a list: its members, its length, keeping all or nothing, and keeping of what was kept, mapped or joined. By induction on the list;
+-- used for sets of states and for the steps that keep some of the rules.
 use Prim.Native.Nat.{suc, _≤_, ℕ}
 use native.Mathlib.Omega.{arith}
 use mathlib.Core.Path.{_≡_, refl, sym, ap, _∙_}
@@ -45,8 +46,12 @@ module _ {A : Type 0} (test : A → Bool) where
   pub keep-all : (xs : List A) → ((x : A) → List·Memᴰ x xs → test x ≡ true) → keep test xs ≡ xs
   unfolding keep
   keep-all [] h = refl
-  keep-all (x ∷ xs) h =
-      rw (h x (List·Memᴰ·head refl), keep-all xs (λ y m. h y (List·Memᴰ·tail m)))
+  keep-all (x ∷ xs) h = rw (h x (List·Memᴰ·head refl), keep-all xs (λ y m. h y (List·Memᴰ·tail m)))
+
+  pub keep-none : (xs : List A) → ((x : A) → List·Memᴰ x xs → test x ≡ false) → keep test xs ≡ []
+  unfolding keep
+  keep-none [] h = refl
+  keep-none (x ∷ xs) h = rw (h x (List·Memᴰ·head refl)) (keep-none xs (λ y m. h y (List·Memᴰ·tail m)))
 
   pub keep-shorter : (xs : List A) → length (keep test xs) ≤ length xs
   unfolding keep
@@ -60,8 +65,7 @@ module _ {A : Type 0} (test : A → Bool) where
 pub keep-agree : {A : Type 0} (f g : A → Bool) (xs : List A) → ((x : A) → List·Memᴰ x xs → f x ≡ g x) → keep f xs ≡ keep g xs
 unfolding keep
 keep-agree f g [] h = refl
-keep-agree f g (x ∷ xs) h =
-    rw (h x (List·Memᴰ·head refl), keep-agree f g xs (λ y m. h y (List·Memᴰ·tail m)))
+keep-agree f g (x ∷ xs) h = rw (h x (List·Memᴰ·head refl), keep-agree f g xs (λ y m. h y (List·Memᴰ·tail m)))
 
 pub keep-map : {A B : Type 0} (test : B → Bool) (f : A → B) (xs : List A)
     → keep test (map f xs) ≡ map f (keep (λ (x : A). test (f x)) xs)

@@ -1,13 +1,13 @@
--- Repeated elements and ranges of numbers: what holds of all their elements, a range's members and parts, and that a range rises.
+-- Repeated elements and ranges of numbers: what holds of all their elements, a range's members and parts, and that a range rises. By induction on the
+-- length; used for the states below n and the rules of the first rows.
 use Prim.Native.Nat.{ℕ, zero, suc, _+_, _≤_, _<_}
 use native.Mathlib.Decide.{ℕ-discrete}
 use native.Mathlib.Nat.{add-zero, add-suc, suc-add, zero-add}
 use native.Mathlib.Omega.{arith}
-use mathlib.Core.Path.{_≡_, refl, ap, ap₂}
+use mathlib.Core.Path.{_≡_, refl, ap}
 use mathlib.Core.List.{List, [], _∷_, _++_, List·Memᴰ, List·Memᴰ·head, List·Memᴰ·tail, List·Memᴰ·not-nil}
-use mathlib.Core.Bool.{Bool, false, cond}
 use lib.ListN.{length, replicate}
-use Rattle.lists.specs.Lists.{All, none, also, Rising, empty, single, step, Distinct, bare, new, from, keep}
+use Rattle.lists.specs.Lists.{All, none, also, Rising, empty, single, step, Distinct, bare, new, from}
 
 pub replicate-all : {A : Type 0} {P : A → Type 0} (n : ℕ) (x : A) → P x → All P (replicate n x)
 replicate-all zero x p = none
@@ -51,31 +51,11 @@ member-from zero i q m = absurd (List·Memᴰ·not-nil m)
 member-from (suc n) i q (List·Memᴰ·head e) = (omega arith, omega arith)
 member-from (suc n) i q (List·Memᴰ·tail m) = let h = member-from n (suc i) q m in (omega arith, omega arith)
 
+-- What holds from i to i + n holds of the members of that range.
+pub each-from : (P : ℕ → Type 0) (i n : ℕ) → ((r : ℕ) → i ≤ r → r < i + n → P r) → (r : ℕ) → List·Memᴰ r (from i n) → P r
+each-from P i n h r m = let b = member-from n i r m in h r (b .0) (b .1)
+
 pub from-distinct : (i n : ℕ) → Distinct (from i n)
 unfolding from
 from-distinct i zero = bare
 from-distinct i (suc n) = new (λ m. let h = member-from n (suc i) i m in omega arith) (from-distinct (suc i) n)
-
-pub keep-none : (f : ℕ → Bool) (i n : ℕ) → ((r : ℕ) → i ≤ r → r < i + n → f r ≡ false) → keep f (from i n) ≡ []
-unfolding keep from
-keep-none f i zero h = refl
-keep-none f i (suc n) h =
-    rw (h i (omega arith) (omega arith)) (keep-none f (suc i) n (λ r a b. h r (omega arith) (omega arith)))
-
-pub keep-same : (f g : ℕ → Bool) (i n : ℕ) → ((r : ℕ) → i ≤ r → r < i + n → f r ≡ g r)
-    → keep f (from i n) ≡ keep g (from i n)
-unfolding keep from
-keep-same f g i zero e = refl
-keep-same f g i (suc n) e =
-    ap₂ (λ (t : Bool) (l : List ℕ). cond t (i ∷ l) l) (e i (omega arith) (omega arith))
-    (keep-same f g (suc i) n (λ r h l. e r (omega arith) (omega arith)))
-
-pub keep-front : (f g : ℕ → Bool) (i n m : ℕ) → ((r : ℕ) → i ≤ r → r < i + n → f r ≡ g r)
-    → ((r : ℕ) → i + n ≤ r → r < i + n + m → f r ≡ false) → keep f (from i (n + m)) ≡ keep g (from i n)
-unfolding keep from
-keep-front f g i zero m same off =
-    rw (zero-add m) (keep-none f i m (λ r a b. off r (omega arith) (omega arith)))
-keep-front f g i (suc n) m same off =
-    rw (suc-add n m)
-    (ap₂ (λ (t : Bool) (l : List ℕ). cond t (i ∷ l) l) (same i (omega arith) (omega arith))
-    (keep-front f g (suc i) n m (λ r a b. same r (omega arith) (omega arith)) (λ r a b. off r (omega arith) (omega arith))))

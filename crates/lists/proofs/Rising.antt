@@ -1,13 +1,15 @@
--- Rising lists: their parts, their length, the test for them, and that their members determine them.
+-- Rising lists: their parts, what is kept of them, the test for them, their length, and that their members determine them. By induction on the list;
+-- used for final states and for ranges of states.
 use Prim.Native.Nat.{ℕ, _+_, _≤_, _<_}
 use native.Mathlib.Omega.{arith}
 use mathlib.Core.Path.{_≡_, refl, sym, ap₂}
 use mathlib.Core.List.{List, [], _∷_, List·Memᴰ, List·Memᴰ·head, List·Memᴰ·tail, List·Memᴰ·not-nil}
-use mathlib.Core.Bool.{Bool, true, false, and-eq-true-iff, cond}
+use mathlib.Core.Bool.{Bool, true, false, cond}
 use lib.ListN.{length}
 use lib.Dec.{ltb}
 use borrow.Author.Tests.{ltb-true, lt-ltb}
-use Rattle.lists.specs.Lists.{All, also, Rising, empty, single, step, rising, risingFrom, keep}
+use Rattle.lists.specs.Lists.{All, also, Rising, empty, single, step, rising, keep}
+use Rattle.lists.proofs.Booleans.{and-true-out}
 use Rattle.lists.proofs.Keeping.{keep-out}
 
 pub rising-rest : {x : ℕ} {xs : List ℕ} → Rising (x ∷ xs) → Rising xs
@@ -54,20 +56,15 @@ rising-same (x ∷ xs) (y ∷ ys) a b f g =
     other l e (List·Memᴰ·head f) = absurd (omega arith)
     other l e (List·Memᴰ·tail m) = m
 
-risingFrom→Rising : (a : ℕ) (xs : List ℕ) → risingFrom a xs ≡ true → Rising (a ∷ xs)
-unfolding risingFrom
-risingFrom→Rising a [] h = single
-risingFrom→Rising a (b ∷ xs) h =
-    let c = and-eq-true-iff (ltb a b) (risingFrom b xs) .0 h in
-    step (ltb-true a b (c .0)) (risingFrom→Rising b xs (c .1))
-
 pub rising→Rising : (xs : List ℕ) → rising xs ≡ true → Rising xs
 unfolding rising
 rising→Rising [] h = empty
-rising→Rising (a ∷ xs) h = risingFrom→Rising a xs h
+rising→Rising (a ∷ []) h = single
+rising→Rising (a ∷ (b ∷ xs)) h =
+    let c = and-true-out (ltb a b) (rising (b ∷ xs)) h in step (ltb-true a b (c .0)) (rising→Rising (b ∷ xs) (c .1))
 
 pub Rising→rising : {xs : List ℕ} → Rising xs → rising xs ≡ true
-unfolding rising risingFrom
+unfolding rising
 Rising→rising empty = refl
 Rising→rising single = refl
 Rising→rising (step h r) = rw (lt-ltb _ _ h) (Rising→rising r)
@@ -76,7 +73,7 @@ rising-count : {n a : ℕ} {xs : List ℕ} → Rising (a ∷ xs) → All (λ (q 
 rising-count single (also h hs) = omega arith
 rising-count (step l r) (also h hs) = omega (arith, rising-count r hs)
 
-pub rising-short : {n : ℕ} {xs : List ℕ} → Rising xs → All (λ (q : ℕ). q < n) xs → length xs ≤ n
-rising-short empty hs = omega arith
-rising-short single hs = omega (arith, rising-count single hs)
-rising-short (step l r) hs = omega (arith, rising-count (step l r) hs)
+-- Of the numbers below n there are at most n.
+pub rising-length : {n : ℕ} {xs : List ℕ} → Rising xs → All (λ (q : ℕ). q < n) xs → length xs ≤ n
+rising-length {xs = []} r hs = omega arith
+rising-length {xs = x ∷ xs} r hs = omega (arith, rising-count r hs)

@@ -1,6 +1,6 @@
--- What a search through a list says of its elements, and back: by induction on the list or on the membership.
-use Prim.Native.Nat.{ℕ, _+_, _≤_, _<_, zero, suc}
-use native.Mathlib.Omega.{arith}
+-- A search through a list (`any`), a test of all its elements (`all`) and membership as a test (`among`): what each says of the elements, and back;
+-- through other lists, by other tests, and from an index on as loops go. By induction on the list or on the membership.
+use Prim.Native.Nat.{ℕ, _+_, _≤_, _<_}
 use native.Mathlib.Numerals.{add-one}
 use mathlib.Core.Path.{_≡_, refl, sym, ap₂, ap, _∙_}
 use mathlib.Core.List.{List, [], _∷_, List·Memᴰ, List·Memᴰ·head, List·Memᴰ·tail, Memᴰ·cast, _++_, map}
@@ -12,11 +12,9 @@ use borrow.Author.Tests.{eq-eqb, eqb-true}
 use mathlib.Core.Logic.{_⊎_, inl, inr}
 use Rattle.lists.specs.Lists.{all, keep, among, from, any}
 use Rattle.lists.proofs.Booleans.{and-true-in, and-true-out, or-false-in, or-true-left, or-true-out, or-true-right}
+use Rattle.lists.proofs.Ranges.{each-from}
 
--- Two tests.
-
--- A list.
-
+-- The element that a search finds.
 pub record Found {A : Type 0} (test : A → Bool) (xs : List A) : Type 0 where
   pub element : A
   pub member : List·Memᴰ element xs
@@ -66,28 +64,22 @@ module _ {A : Type 0} (test : A → Bool) where
   all-out h x (List·Memᴰ·head {xs = xs} e) = ap test e ∙ and-true-out _ (all test xs) h .0
   all-out h x (List·Memᴰ·tail {x = y} {xs = xs} m) = all-out (and-true-out (test y) (all test xs) h .1) x m
 
--- Searches through what a map or a test leaves, and through ranges.
+-- Searches through what a map or a test leaves.
 
 pub any-map : {A B : Type 0} (test : B → Bool) (f : A → B) (xs : List A) → any test (map f xs) ≡ any (λ (x : A). test (f x)) xs
 unfolding any
 any-map test f [] = refl
 any-map test f (x ∷ xs) = ap (λ (t : Bool). test (f x) || t) (any-map test f xs)
 
-pub any-keep : (test kept : ℕ → Bool) (xs : List ℕ) → any test (keep kept xs) ≡ any (λ (x : ℕ). kept x && test x) xs
+pub any-keep : {A : Type 0} (test kept : A → Bool) (xs : List A) → any test (keep kept xs) ≡ any (λ (x : A). kept x && test x) xs
 unfolding any keep
 any-keep test kept [] = refl
-any-keep test kept (x ∷ xs) = go (kept x) (any-keep test kept xs)
+any-keep {A} test kept (x ∷ xs) = go (kept x) (any-keep test kept xs)
   where
-    go : (t : Bool) → any test (keep kept xs) ≡ any (λ (x : ℕ). kept x && test x) xs
-        → any test (cond t (x ∷ keep kept xs) (keep kept xs)) ≡ ((t && test x) || any (λ (x : ℕ). kept x && test x) xs)
+    go : (t : Bool) → any test (keep kept xs) ≡ any (λ (x : A). kept x && test x) xs
+        → any test (cond t (x ∷ keep kept xs) (keep kept xs)) ≡ ((t && test x) || any (λ (x : A). kept x && test x) xs)
     go true e = ap (λ (s : Bool). test x || s) e
     go false e = e
-
-pub any-same : (f g : ℕ → Bool) (i n : ℕ) → ((j : ℕ) → i ≤ j → j < i + n → f j ≡ g j) → any f (from i n) ≡ any g (from i n)
-unfolding any from
-any-same f g i zero e = refl
-any-same f g i (suc n) e =
-    ap₂ _||_ (e i (omega arith) (omega arith)) (any-same f g (suc i) n (λ j h l. e j (omega arith) (omega arith)))
 
 -- Searches by two tests that agree on the elements, and through two lists.
 
@@ -103,6 +95,10 @@ module _ {A : Type 0} (f g : A → Bool) where
   all-agree [] same = refl
   all-agree (x ∷ xs) same =
       ap₂ _&&_ (same x (List·Memᴰ·head refl)) (all-agree xs (λ y m. same y (List·Memᴰ·tail m)))
+
+-- On a range.
+pub any-same : (f g : ℕ → Bool) (i n : ℕ) → ((j : ℕ) → i ≤ j → j < i + n → f j ≡ g j) → any f (from i n) ≡ any g (from i n)
+any-same f g i n same = any-agree f g (from i n) (each-from (λ (j : ℕ). f j ≡ g j) i n same)
 
 pub all-joined : {A : Type 0} (test : A → Bool) (xs ys : List A) → all test (xs ++ ys) ≡ (all test xs && all test ys)
 unfolding all

@@ -24,13 +24,10 @@ unfoldable pub all : {A : Type 0} → (A → Bool) → List A → Bool
 all test [] = true
 all test (x ∷ xs) = test x && all test xs
 
-unfoldable pub risingFrom : ℕ → List ℕ → Bool
-risingFrom a [] = true
-risingFrom a (b ∷ xs) = ltb a b && risingFrom b xs
-
 unfoldable pub rising : List ℕ → Bool
 rising [] = true
-rising (a ∷ xs) = risingFrom a xs
+rising (a ∷ []) = true
+rising (a ∷ (b ∷ xs)) = ltb a b && rising (b ∷ xs)
 
 -- n numbers from i on.
 unfoldable pub from : ℕ → ℕ → List ℕ

@@ -1,4 +1,5 @@
--- Fields and records written over a buffer; where there is room, and what a call that refuses leaves.
+-- Fields and records written over a buffer; where there is room, and what a call that refuses leaves. From the laws of numbers written over an
+-- array; used by the code that writes fields, tables and relations.
 use Prim.Native.Nat.{ℕ, _+_, _*_, _/_, _%_, _≤_, _<_}
 use mathlib.Core.Path.{_≡_, refl, sym, ap, ap₂, _∙_}
 use mathlib.Core.List.{List, [], _∷_, _++_}

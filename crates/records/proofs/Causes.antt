@@ -1,4 +1,5 @@
--- With which causes a reading can refuse.
+-- With which causes a reading can refuse. A step's causes are those of its parts, so that `search` finds them line by line of a definition; used
+-- for the causes of every call.
 use Prim.Native.Nat.{ℕ}
 use native.Mathlib.Omega.{arith}
 use mathlib.Core.Path.{_≡_, subst}

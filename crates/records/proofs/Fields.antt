@@ -1,4 +1,5 @@
--- Fields of bytes read one after the other, each step two bytes off the front; and written and read again.
+-- Fields of bytes read one after the other, each step two bytes off the front; written and read again, and the reverse. By arithmetic on the bytes;
+-- used for records, tables, trees and relations.
 use Prim.Native.Nat.{ℕ, zero, suc, _+_, _*_, _/_, _%_, _≤_, _<_}
 use native.Mathlib.Omega.{arith}
 use native.Mathlib.Nat.{add-mul-mod-self-left}

@@ -1,4 +1,5 @@
--- Records written and read: an encoded record opens with its kind, body and end, and a record that opens is encoded.
+-- Records written and read: an encoded record opens with its kind, body and end, and a record that opens is encoded. From fields written and read;
+-- used for the encoding of tables and of reduced tables.
 use Prim.Native.Nat.{ℕ, _+_, _-_, _<_}
 use native.Mathlib.Omega.{arith}
 use mathlib.Core.Path.{_≡_, ap, _∙_}

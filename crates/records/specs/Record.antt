@@ -25,13 +25,8 @@ opened [] = nothing
 opened (x ∷ b) = cond (isWhole (x ∷ b)) (whole (number2 (drop 4 (x ∷ b))) (endOf (x ∷ b))) (refused 1)
 
 -- The body of the first record; empty where none opens.
-unfoldable pub bodyIn : Opening → List ℕ → List ℕ
-bodyIn (whole kind end) b = take (end - 6) (drop 6 b)
-bodyIn nothing b = []
-bodyIn (refused cause) b = []
-
 unfoldable pub bodyOf : List ℕ → List ℕ
-bodyOf b = bodyIn (opened b) b
+bodyOf b = cond (isWhole b) (take (endOf b - 6) (drop 6 b)) []
 
 -- A record in bytes.
 unfoldable pub encodeRecord : ℕ → List ℕ → List ℕ

@@ -1,46 +1,19 @@
--- Sets at the entries of a lent array: what stands at an entry, and what does after a set is put at one.
-use Prim.Native.Nat.{ℕ, _+_, _-_, _*_, _≤_, _<_}
+-- Sets at the entries of a lent array: what stands at an entry, and what does after a set is put at one. From the laws of numbers written over an
+-- array, word by word; used by the code that keeps sets in lent words.
+use Prim.Native.Nat.{ℕ, _+_, _*_, _≤_, _<_}
 use native.Mathlib.Decide.{decLt}
 use native.Mathlib.Nat.{add-zero}
 use native.Mathlib.Numerals.{add-one, add-two, add-three}
 use native.Mathlib.Omega.{arith}
-use mathlib.Core.Path.{_≡_, sym, ap, ap₂, _∙_}
-use mathlib.Core.List.{List, [], _∷_, _++_, append-assoc}
-use lib.ListN.{length, take, drop, getD, set, length-take, length-drop, List·getD-append}
-use lib.Seq.{ext-getD, getD-take, getD-drop, sets-eq, take-length, length-take-le, getD-append-add, length-paste, drop-paste}
+use mathlib.Core.Path.{_≡_, sym, _∙_}
+use mathlib.Core.List.{List, [], _∷_}
+use lib.ListN.{length, drop, getD, set, length-take, length-drop}
+use lib.Seq.{ext-getD, getD-take, getD-drop, sets-eq}
 use Rattle.lists.specs.Over.{over}
+use Rattle.lists.proofs.Overwriting.{over-length, over-below, over-at, over-above}
 use Rattle.sets.specs.Set.{words}
 use Rattle.sets.specs.Entries.{entryAt}
 use Rattle.sets.proofs.StateSets.{words-getD}
-
--- Numbers written over a list.
-
-pub over-length : (l new : List ℕ) (at : ℕ) → at + length new ≤ length l → length (over l at new) ≡ length l
-unfolding over
-over-length l new at room = length-paste l at new (length new) room (omega arith)
-
-pub over-below : (l new : List ℕ) (at i : ℕ) → at ≤ length l → i < at → getD (over l at new) i 0 ≡ getD l i 0
-unfolding over
-over-below l new at i room h =
-    let long : length (take at l) ≡ at = length-take-le at l room in
-    rw (append-assoc, List·getD-append (take at l) _ 0 i (omega arith), getD-take at l i 0 h)
-
-pub over-at : (l new : List ℕ) (at j : ℕ) → at ≤ length l → j < length new → getD (over l at new) (at + j) 0 ≡ getD new j 0
-unfolding over
-over-at l new at j room h =
-    let long : length (take at l) ≡ at = length-take-le at l room in
-    let place : at + j ≡ length (take at l) + j = omega arith in
-    let behind : List ℕ = drop (at + length new) l in
-    ap₂ (λ (l : List ℕ) (i : ℕ). getD l i 0) (append-assoc (take at l) (take (length new) new) behind) place
-    ∙ getD-append-add (take at l) _ j 0
-    ∙ ap (λ (l : List ℕ). getD (l ++ behind) j 0) (take-length new)
-    ∙ List·getD-append new behind 0 j h
-
-pub over-above : (l new : List ℕ) (at i : ℕ) → at ≤ length l → at + length new ≤ i → getD (over l at new) i 0 ≡ getD l i 0
-unfolding over
-over-above l new at i room h =
-    let place : i ≡ at + length new + (i - (at + length new)) = omega arith in
-    rw (place, ← getD-drop (at + length new) (over l at new), drop-paste l at new (length new) room (omega arith), getD-drop)
 
 -- Entries.
 

@@ -1,8 +1,9 @@
--- The members of a state set after each operation, and that they determine it: a member is a bit of a word.
+-- The members of a state set after each operation, and that they determine it: a member is a bit of a word. From the laws of bits; used by all
+-- code that keeps states in sets.
 use Prim.Native.Nat.{ℕ, zero, suc, _+_, _*_, _/_, _%_, _^_, _≤_, _<_, min, max, _-_}
-use mathlib.Core.Path.{_≡_, refl, sym, ap, ap₂, _∙_}
-use mathlib.Core.List.{List, [], _∷_, List·Memᴰ}
-use mathlib.Core.Bool.{Bool, true, false, cond, not, _&&_, _||_, xor, true≢false, false≢true, or-comm, or-true, or-false, and-eq-true-iff}
+use mathlib.Core.Path.{_≡_, refl, sym, ap, _∙_}
+use mathlib.Core.List.{List, [], _∷_, append-nil, List·Memᴰ}
+use mathlib.Core.Bool.{Bool, true, false, cond, not, _&&_, _||_, xor, true≢false, false≢true, or-comm, or-true, or-false}
 use mathlib.Core.Bool.{and-false, and-comm}
 use native.Mathlib.Nat.{one-mul, zero-div, pow-suc}
 use native.Mathlib.Numerals.{one-add}
@@ -12,16 +13,17 @@ use lib.Seq.{ext-getD}
 use lib.Dec.{eqb, eqb·zero-suc, eqb·suc-zero, eqb·suc-suc, ltb}
 use lib.Pow.{shl-exact, shr-shr, pow-lt}
 use lib.Bits.{bitAnd, bitOr, bitXor, differ, and-shr, and-step, or-shr, or-step, xor-shr, xor-step, or-lt}
-use borrow.Author.Tests.{eq-eqb, ne-eqb, eqb-true, eqb-false, ltb-false, ltb-true, lt-ltb, le-ltb}
-use Rattle.lists.specs.Lists.{All, none, also, Rising, empty, single, step, from, keep, any}
-use Rattle.lists.proofs.Elements.{all-map}
-use Rattle.lists.proofs.Keeping.{keep-out}
-use Rattle.lists.proofs.Ranges.{member-from, from-member, keep-same, keep-front}
-use Rattle.lists.proofs.Search.{any-out, any-none-out, any-keep}
+use borrow.Author.Tests.{eq-eqb, ne-eqb, eqb-true, eqb-false, ltb-true, lt-ltb, le-ltb}
+use Rattle.lists.specs.Lists.{All, Rising, from, keep, any, among}
+use Rattle.lists.proofs.Booleans.{and-true-out, same-bool, never-true, not-true-in, not-true-out}
+use Rattle.lists.proofs.Elements.{all-member}
+use Rattle.lists.proofs.Keeping.{keep-in, keep-out, keep-agree, keep-none, keep-append}
+use Rattle.lists.proofs.Ranges.{from-append, from-rising, member-from, from-member, each-from}
+use Rattle.lists.proofs.Rising.{rising-keep, rising-same}
+use Rattle.lists.proofs.Search.{any-out, any-none-out, any-keep, among-in, among-out}
 use Rattle.sets.specs.Set as sets
-use Rattle.sets.specs.Set.{member, words, emptySet, replaced, withState, withoutState, unionOf, meetOf, sameSet, withAll, setOf}
-use Rattle.sets.specs.Set.{statesIn}
-use Rattle.sets.specs.Inner.{Has}
+use Rattle.sets.specs.Set.{member, words, emptySet, replaced, withState, withoutState, unionOf, meetOf, sameSet}
+use Rattle.sets.specs.Inner.{withAll, setOf, statesIn, Has}
 
 pub below-four : (P : ℕ → Type 0) → P 0 → P 1 → P 2 → P 3 → (i : ℕ) → i < 4 → P i
 below-four P a b c d zero h = a
@@ -130,11 +132,7 @@ bit-power (suc j) (suc k) =
 -- Members.
 
 pub same-test : (a b c d : ℕ) → (a ≡ b → c ≡ d) → (c ≡ d → a ≡ b) → eqb a b ≡ eqb c d
-same-test a b c d f g = go (eqb c d) refl
-  where
-    go : (t : Bool) → eqb c d ≡ t → eqb a b ≡ t
-    go true e = eq-eqb a b (g (eqb-true c d e))
-    go false e = ne-eqb a b (λ p. eqb-false c d e (f p))
+same-test a b c d f g = same-bool (λ e. eq-eqb c d (f (eqb-true a b e))) (λ e. eq-eqb a b (g (eqb-true c d e)))
 
 member-words : (f : ℕ → ℕ) (r : ℕ) → r < 256 → member (words f) r ≡ bit (f (r / 64)) (r % 64)
 unfolding member bit
@@ -190,25 +188,22 @@ member-meet ws vs r h = member-words _ r h ∙ bit-and _ _ (r % 64)
 
 -- Sets of lists.
 
-unfoldable pub elem : ℕ → List ℕ → Bool
-elem r [] = false
-elem r (q ∷ qs) = eqb r q || elem r qs
-
 or-rotate : (a b c : Bool) → (a || (b || c)) ≡ ((b || a) || c)
 or-rotate a true c = or-true a
 or-rotate a false c = refl
 
-pub member-withAll : (ws qs : List ℕ) (r : ℕ) → r < 256 → member (withAll ws qs) r ≡ (elem r qs || member ws r)
-unfolding withAll elem
+pub member-withAll : (ws qs : List ℕ) (r : ℕ) → r < 256 → member (withAll ws qs) r ≡ (among qs r || member ws r)
+unfolding withAll among any
 member-withAll ws [] r h = refl
 member-withAll ws (q ∷ qs) r h =
-    member-withAll (withState ws q) qs r h ∙ ap (λ (t : Bool). elem r qs || t) (member-with ws q r h)
-    ∙ or-rotate (elem r qs) (eqb r q) (member ws r)
+    member-withAll (withState ws q) qs r h
+    ∙ ap (λ (t : Bool). among qs r || t) (member-with ws q r h ∙ ap (λ (t : Bool). t || member ws r) (same-test r q q r sym sym))
+    ∙ or-rotate (among qs r) (eqb q r) (member ws r)
 
-pub member-setOf : (qs : List ℕ) (r : ℕ) → r < 256 → member (setOf qs) r ≡ elem r qs
+pub member-setOf : (qs : List ℕ) (r : ℕ) → r < 256 → member (setOf qs) r ≡ among qs r
 unfolding setOf
 member-setOf qs r h =
-    member-withAll emptySet qs r h ∙ ap (λ (t : Bool). elem r qs || t) (member-empty r h) ∙ or-false (elem r qs)
+    member-withAll emptySet qs r h ∙ ap (λ (t : Bool). among qs r || t) (member-empty r h) ∙ or-false (among qs r)
 
 length-withAll : (ws qs : List ℕ) → length ws ≡ 4 → length (withAll ws qs) ≡ 4
 unfolding withAll withState replaced
@@ -219,54 +214,17 @@ pub length-setOf : (qs : List ℕ) → length (setOf qs) ≡ 4
 unfolding setOf emptySet
 length-setOf qs = length-withAll emptySet qs (length-words _)
 
-rising-above : {a : ℕ} {qs : List ℕ} → Rising (a ∷ qs) → All (λ (q : ℕ). a < q) qs
-rising-above single = none
-rising-above (step h r) = also h (all-map (λ q l. omega arith) (rising-above r))
-
-rising-tail : {a : ℕ} {qs : List ℕ} → Rising (a ∷ qs) → Rising qs
-rising-tail single = empty
-rising-tail (step h r) = r
-
-pub elem-above : (r : ℕ) {qs : List ℕ} → All (λ (q : ℕ). r < q) qs → elem r qs ≡ false
-unfolding elem
-elem-above r none = refl
-elem-above r (also {x = q} h hs) = rw (ne-eqb r q (omega arith)) (elem-above r hs)
-
-keep-elem : (n i : ℕ) (qs : List ℕ) → All (λ (q : ℕ). i ≤ q) qs → All (λ (q : ℕ). q < i + n) qs → Rising qs
-    → keep (λ (r : ℕ). elem r qs) (from i n) ≡ qs
-unfolding keep from elem
-keep-elem zero i [] lows highs rise = refl
-keep-elem zero i (q ∷ qs) (also low lows) (also high highs) rise = absurd (omega arith)
-keep-elem (suc n) i [] lows highs rise = keep-elem n (suc i) [] none none rise
-keep-elem (suc n) i (q ∷ qs) (also low lows) (also high highs) rise = go (keep-elem n (suc i)) (eqb i q) refl
-  where
-    above : All (λ (p : ℕ). i < p) qs
-    above = all-map (λ p l. omega arith) (rising-above rise)
-
-    still-high : All (λ (p : ℕ). p < suc i + n) qs
-    still-high = all-map (λ p l. omega arith) highs
-
-    rest : List ℕ
-    rest = keep (λ (r : ℕ). eqb r q || elem r qs) (from (suc i) n)
-
-    go : ((ps : List ℕ) → All (λ (p : ℕ). suc i ≤ p) ps → All (λ (p : ℕ). p < suc i + n) ps → Rising ps
-        → keep (λ (r : ℕ). elem r ps) (from (suc i) n) ≡ ps)
-        → (t : Bool) → eqb i q ≡ t → cond (t || elem i qs) (i ∷ rest) rest ≡ q ∷ qs
-    go later true e =
-        let head : i ≡ q = eqb-true i q e in
-        ap₂ _∷_ head
-        (keep-same (λ (r : ℕ). eqb r q || elem r qs) (λ (r : ℕ). elem r qs) (suc i) n
-        (λ r l h. rw (ne-eqb r q (omega arith)))
-        ∙ later qs above still-high (rising-tail rise))
-    go later false e =
-        let other : i ≡ q → ⊥ = eqb-false i q e in
-        rw (elem-above i above) (later (q ∷ qs) (also (omega arith) above) (also (omega arith) still-high) rise)
-
 pub states-of-set : (qs : List ℕ) (n : ℕ) → n ≤ 256 → All (λ (q : ℕ). q < n) qs → Rising qs
     → keep (member (setOf qs)) (from 0 n) ≡ qs
 states-of-set qs n h highs rise =
-    keep-same (member (setOf qs)) (λ (r : ℕ). elem r qs) 0 n (λ r low high. member-setOf qs r (omega arith))
-    ∙ keep-elem n 0 qs (all-map (λ q l. omega arith) highs) (all-map (λ q l. omega arith) highs) rise
+    rising-same _ qs (rising-keep (member (setOf qs)) (from-rising 0 n)) rise
+    (λ q m.
+    let k = keep-out (member (setOf qs)) (from 0 n) m in
+    let b = member-from n 0 q (k .0) in
+    among-out qs q (sym (member-setOf qs q (omega arith)) ∙ k .1))
+    (λ q m.
+    let b = all-member highs m in
+    keep-in (member (setOf qs)) (from-member n 0 q (omega arith) (omega arith)) (member-setOf qs q (omega arith) ∙ among-in m))
 
 -- Sets with the same members.
 
@@ -307,9 +265,9 @@ same-set-in ws = rw (same 0, same 1, same 2, same 3)
 pub same-set-out : (ws vs : List ℕ) → length ws ≡ 4 → length vs ≡ 4 → sameSet ws vs ≡ true → ws ≡ vs
 unfolding sameSet
 same-set-out ws vs lw lv e =
-    let (a, s) = and-eq-true-iff (same 0) (same 1 && (same 2 && same 3)) .0 e in
-    let (b, t) = and-eq-true-iff (same 1) (same 2 && same 3) .0 s in
-    let (c, d) = and-eq-true-iff (same 2) (same 3) .0 t in
+    let (a, s) = and-true-out (same 0) (same 1 && (same 2 && same 3)) e in
+    let (b, t) = and-true-out (same 1) (same 2 && same 3) s in
+    let (c, d) = and-true-out (same 2) (same 3) t in
     ext-getD 0 ws vs (lw ∙ sym lv)
     (λ i h. eqb-true (getD ws i 0) (getD vs i 0) (below-four (λ (j : ℕ). same j ≡ true) a b c d i (omega arith)))
   where
@@ -320,11 +278,15 @@ pub states-below : (set low : List ℕ) (n : ℕ) → n ≤ 256 → Has low (λ 
     → statesIn 256 low ≡ statesIn n set
 unfolding statesIn
 states-below set low n h has =
-    let e : 256 ≡ n + (256 - n) = omega arith in
-    ap (λ (m : ℕ). keep (member low) (from 0 m)) e
-    ∙ keep-front (member low) (member set) 0 n (256 - n)
-    (λ r a b. has r (omega arith) ∙ rw (lt-ltb r n (omega arith)))
-    (λ r a b. has r (omega arith) ∙ rw (le-ltb r n (omega arith)))
+    let split : 256 ≡ n + (256 - n) = omega arith in
+    let front : keep (member low) (from 0 n) ≡ keep (member set) (from 0 n) =
+    keep-agree _ _ (from 0 n) (each-from _ 0 n (λ r a b. has r (omega arith) ∙ rw (lt-ltb r n (omega arith)))) in
+    let rest : keep (member low) (from (0 + n) (256 - n)) ≡ [] =
+    keep-none _ (from (0 + n) (256 - n)) (each-from _ (0 + n) (256 - n) (λ r a b. has r (omega arith) ∙ rw (le-ltb r n (omega arith)))) in
+    ap (λ (m : ℕ). keep (member low) (from 0 m)) split
+    ∙ rw (from-append, keep-append, front, rest) (append-nil (keep (member set) (from 0 n)))
+
+-- Words below 2 ^ 64, as the code's are.
 
 abbrev pub Bounded : List ℕ → Type 0
 Bounded ws = (i : ℕ) → getD ws i 0 < 2 ^ 64
@@ -362,11 +324,8 @@ sets-differ ws vs lw lv bw bv other same =
 
 -- One state more of those below a bound.
 pub ltb-more : (r q : ℕ) → (r ≡ q → ⊥) → ltb r (q + 1) ≡ ltb r q
-ltb-more r q other = go (ltb r q) refl
-  where
-    go : (t : Bool) → ltb r q ≡ t → ltb r (q + 1) ≡ t
-    go true e = lt-ltb r (q + 1) (omega (arith, ltb-true r q e))
-    go false e = le-ltb r (q + 1) (omega (arith, ltb-false r q e))
+ltb-more r q other =
+    same-bool (λ e. lt-ltb r q (omega (arith, ltb-true r (q + 1) e))) (λ e. lt-ltb r (q + 1) (omega (arith, ltb-true r q e)))
 
 module _ (set : List ℕ) (test : ℕ → Bool) (q : ℕ) (has : Has set (λ (r : ℕ). ltb r q && test r)) where
   pub below-in : q < 256 → test q ≡ true → Has (withState set q) (λ (r : ℕ). ltb r (q + 1) && test r)
@@ -406,25 +365,22 @@ module _ (set other : List ℕ) where
       → not (sameSet (meetOf set other) emptySet) ≡ any (member set) (keep (member other) (from 0 256))
   unfolding meetOf emptySet words setOf withAll
   common-state bounded =
-      go (any common (from 0 256)) refl (sameSet (meetOf set other) emptySet) refl
-      ∙ sym (any-keep (member set) (member other) (from 0 256))
+      same-bool (in-both (any common (from 0 256)) refl) not-empty ∙ sym (any-keep (member set) (member other) (from 0 256))
     where
-      go : (t : Bool) → any common (from 0 256) ≡ t → (s : Bool) → sameSet (meetOf set other) emptySet ≡ s
-          → not s ≡ any common (from 0 256)
-      go true e false h = sym e
-      go false e true h = sym e
-      go true e true h =
+      in-both : (t : Bool) → any common (from 0 256) ≡ t → not (sameSet (meetOf set other) emptySet) ≡ true
+          → any common (from 0 256) ≡ true
+      in-both true e h = e
+      in-both false e h =
+          absurd (sets-differ (meetOf set other) emptySet refl refl bounded (bounded-setOf []) (never-true (not-true-out h))
+          (λ q low. member-common q low
+          ∙ any-none-out common e q (from-member 256 0 q (omega arith) (omega arith)) ∙ sym (member-empty q low)))
+
+      not-empty : any common (from 0 256) ≡ true → not (sameSet (meetOf set other) emptySet) ≡ true
+      not-empty e =
           let f = any-out common (from 0 256) e in
           let low : f .element < 256 = omega (arith, member-from 256 0 (f .element) (f .member) .1) in
-          absurd (true≢false
-          (sym (f .passes) ∙ sym (member-common (f .element) low)
+          not-true-in (λ h. true≢false (sym (f .passes) ∙ sym (member-common (f .element) low)
           ∙ rw (same-set-out (meetOf set other) emptySet refl refl h) (member-empty (f .element) low)))
-      go false e false h =
-          let same : meetOf set other ≡ emptySet =
-          same-members (meetOf set other) emptySet refl refl bounded (bounded-setOf [])
-          (λ q low. member-common q low
-          ∙ any-none-out common e q (from-member 256 0 q (omega arith) (omega arith)) ∙ sym (member-empty q low)) in
-          absurd (false≢true (sym h ∙ rw same (same-set-in emptySet)))
 
 -- The states below n.
 pub states-low : (n : ℕ) (set : List ℕ) (q : ℕ) → List·Memᴰ q (statesIn n set) → q < n

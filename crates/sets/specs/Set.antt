@@ -5,7 +5,6 @@ use mathlib.Core.Bool.{Bool, cond, _&&_}
 use lib.ListN.{getD}
 use lib.Bits.{bitAnd, bitOr, bitXor}
 use lib.Dec.{eqb}
-use Rattle.lists.specs.Lists.{from, keep}
 
 -- Whether state q is in the set. A set has four words and a state is below 256, so the word is there, here and below.
 unfoldable pub member : List ℕ → ℕ → Bool
@@ -38,15 +37,3 @@ meetOf ws vs = words (λ (i : ℕ). bitAnd (getD ws i 0) (getD vs i 0))
 unfoldable pub sameSet : List ℕ → List ℕ → Bool
 sameSet ws vs = eqb (getD ws 0 0) (getD vs 0 0) && (eqb (getD ws 1 0) (getD vs 1 0)
     && (eqb (getD ws 2 0) (getD vs 2 0) && eqb (getD ws 3 0) (getD vs 3 0)))
-
--- The set of the states of a list: each is added in turn.
-unfoldable pub withAll : List ℕ → List ℕ → List ℕ
-withAll ws [] = ws
-withAll ws (q ∷ qs) = withAll (withState ws q) qs
-
-unfoldable pub setOf : List ℕ → List ℕ
-setOf qs = withAll emptySet qs
-
--- The states below n that are in a set.
-unfoldable pub statesIn : ℕ → List ℕ → List ℕ
-statesIn n set = keep (member set) (from 0 n)

@@ -1,4 +1,5 @@
--- The parts of a table in bytes, one after the other.
+-- The parts of a table in bytes, one after the other: runs of states and of rules that grow turn by turn, a rule from its fields, a table from its
+-- records. From the laws of numbers written over an array; for the proofs of the functions that write.
 use Prim.Native.Nat.{ℕ, _+_, _*_, _≤_}
 use mathlib.Core.Path.{_≡_, refl, sym}
 use mathlib.Core.List.{List, [], _∷_, _++_, append-assoc, append-nil}
@@ -20,13 +21,10 @@ use Rattle.automaton.specs.Table.{encodeRule, encodeRules, encode}
 use Rattle.automaton.specs.Row.{ruleAt, rulesIn}
 use Rattle.automaton.specs.Decoded.{automatonIn}
 use Rattle.automaton.specs.declared.table.Size.{Size}
-use Rattle.automaton.proofs.Rows.{rules-next, rules-length}
+use Rattle.automaton.proofs.Encoding.{length-encode}
+use Rattle.automaton.proofs.Rows.{rules-next, length-rulesIn}
 
--- Fields.
-
--- Records.
-
--- States.
+-- States, turn by turn.
 
 pub states-step : (test : ℕ → Bool) (q : ℕ)
     → fields (keep test (from 0 (q + 1))) ≡ fields (keep test (from 0 q)) ++ fields (keep test (q ∷ []))
@@ -39,9 +37,7 @@ states test = record {
   step = states-step test;
 }
 
--- Rules.
-
--- A head, the symbol, the target and then the children.
+-- A rule: a head, the symbol, the target and then the children.
 pub over-rule : (u : Rule) (out : List ℕ) (at : ℕ) → at + length (encodeRule u) ≤ length out
     → (symbol target : ℕ) (children : List ℕ) → symbol ≡ u .symbol → target ≡ u .target → children ≡ u .children
     → (a b c d : List ℕ) → a ≡ over out at (bytes4 (2 + (4 + 2 * length children)) ++ bytes2 4) → b ≡ over a (at + 6) (bytes2 symbol)
@@ -55,6 +51,8 @@ over-rule u out at fits symbol target children e f g a b c d p q r s =
     (over-then out at _ a (at + 6) _ b (rw (g, sized) at p) (rw e at q) (omega arith) (omega arith))
     (rw f at r) (omega arith) (omega arith))
     (rw g at s) (omega arith) (omega arith)
+
+-- Rules, turn by turn.
 
 encodeRules-append : (us vs : List Rule) → encodeRules (us ++ vs) ≡ encodeRules us ++ encodeRules vs
 unfolding encodeRules
@@ -89,21 +87,19 @@ module _ (size : Size) (finals ranks rows : List ℕ) where
     encode-records : encode (automatonIn size finals ranks rows)
         ≡ size-record ++ ranks-record ++ finals-record ++ rule-records
     unfolding encode automatonIn
-    encode-records = rw (length-take-le (size .symbols) ranks h, rules-length) (simp append-assoc)
+    encode-records = rw (length-take-le (size .symbols) ranks h, length-rulesIn) (simp append-assoc)
 
-    length-first : length size-record ≡ 12
-    length-first = rw (length-record, length-fields)
+    pub length-written : length (encode (automatonIn size finals ranks rows))
+        ≡ 24 + size .symbols + 2 * length (keep (member finals) (from 0 (size .states))) + length rule-records
+    unfolding automatonIn
+    length-written = rw (length-encode, length-take-le (size .symbols) ranks h)
 
     length-two : length (size-record ++ ranks-record) ≡ 18 + size .symbols
-    length-two = rw (length-append, length-first, length-record, length-take-le (size .symbols) ranks h) (omega arith)
+    length-two = simp (length-append, length-record, length-fields, length-take-le (size .symbols) ranks h) (omega arith)
 
     length-three : length (size-record ++ ranks-record ++ finals-record)
         ≡ 24 + size .symbols + 2 * length (keep (member finals) (from 0 (size .states)))
     length-three = rw (length-append, length-two, length-record, length-fields) (omega arith)
-
-    pub length-encode : length (encode (automatonIn size finals ranks rows))
-        ≡ 24 + size .symbols + 2 * length (keep (member finals) (from 0 (size .states))) + length rule-records
-    length-encode = rw (encode-records, length-append, length-three)
 
     -- The four parts, each written after the one before.
     pub over-records : (out : List ℕ) (count : ℕ) → count ≡ length (keep (member finals) (from 0 (size .states)))
@@ -112,10 +108,10 @@ module _ (size : Size) (finals ranks rows : List ℕ) where
         → d ≡ over c (24 + size .symbols + 2 * count) rule-records
         → d ≡ over out 0 (encode (automatonIn size finals ranks rows))
     over-records out count e fits a b c d p q r s =
-        let one = length-first in
+        let one : length size-record ≡ 12 = rw (length-record, length-fields) in
         let two = length-two in
         let three = length-three in
-        let all = length-encode in
+        let all = length-written in
         rw encode-records
         (over-then out 0 _ c _ _ d
         (over-then out 0 _ b _ _ c

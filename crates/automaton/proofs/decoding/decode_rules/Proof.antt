@@ -1,19 +1,18 @@
--- `automaton::decoding::decode_rules` meets its contract: each turn takes one rule more into its row.
+-- Each turn takes one rule more into its row.
 use borrow.Author.Needs.{needs}
 use Prim.Native.Nat.{_-_}
 use mathlib.Core.Path.{_≡_, sym, _∙_}
 use denote.Ref.{now}
 use Rattle.lists.proofs.Arrays.{part-to-end}
 use Rattle.records.specs.Record.{bodyOf}
-use Rattle.records.specs.Read.{found, refused}
+use Rattle.records.specs.Read.{found, refused, mapRead}
 use Rattle.records.specs.Refusal.{numberOf}
 use Rattle.records.proofs.Answers.{told}
 use Rattle.records.proofs.Reading.{refused≢found}
-use Rattle.automaton.specs.Row.{Puts}
-use Rattle.automaton.specs.Table.{ruleIn, judgeRules}
-use Rattle.automaton.specs.Inner.{passing, placeOf, verdictOf}
+use Rattle.automaton.specs.Table.{judgeRecord, ruleIn, judgeRule, judgeRules}
+use Rattle.automaton.specs.Inner.{passing, placeOf, verdictOf, Puts}
 use Rattle.automaton.proofs.decoding.decode_rules.Tie as tie
-use Rattle.automaton.proofs.table.Judging.{nextRule, next-found}
+use Rattle.automaton.proofs.Checked.{record-found, record-within}
 use Rattle.automaton.proofs.decoding.Filling.{rule-body, Reached, none-reached, reached-refused, next-room, next-reached}
 use Rattle.automaton.proofs.decoding.Filling.{end-reached, all-reached}
 use Rattle.automaton.proofs.decoding.decode_rules.Statement.{statement}
@@ -31,18 +30,18 @@ unfolding placeOf
 rules-stop c =
     reached-refused _ _ _ _ _ _ _ _ (c .before .before .before .before .before .loop .inv)
     (c .before .before .before .before .loop-test .taken)
-    (told placeOf (c .before .before .before .next-rule .ensures) (c .before .cause .given .1))
+    (told placeOf (c .before .before .before .rule-end .ensures) (c .before .cause .given .1))
 
 returns : tie.Need-returns Inv-loop μ-loop
-unfolding verdictOf passing
+unfolding verdictOf passing mapRead
 returns c = (rw (rules-stop c), λ us h. absurd (refused≢found (sym (rules-stop c) ∙ h)))
 
 next-is : (c : tie.After-known-told2 Inv-loop μ-loop)
     → let a = c .before .before .before .before .before .before .before .before .before .args in
     let l = c .before .before .before .before .before .loop in
-    nextRule (a .n) (now (a .ranks)) (now (l .rest)) ≡ found (c .before .end .given .0 .0)
+    judgeRecord 4 7 (judgeRule (a .n) (now (a .ranks))) (now (l .rest)) ≡ found (c .before .end .given .0 .0)
 unfolding placeOf
-next-is c = told placeOf (c .before .before .before .next-rule .ensures) (c .before .end .given .1)
+next-is c = told placeOf (c .before .before .before .rule-end .ensures) (c .before .end .given .1)
 
 put-row-requires : tie.Need-put-row-requires Inv-loop μ-loop
 put-row-requires c κs =
@@ -50,12 +49,12 @@ put-row-requires c κs =
     let t = d .before .before .before .before in
     let pre = t .before .before .before .before .before .pre in (
       rw (c .before .body .ensures)
-          (rule-body _ _ _ (pre .0 .0) (pre .1 .0 .0) (pre .1 .0 .1) (next-found _ _ _ (next-is d) .judged)),
+          (rule-body _ _ _ (pre .0 .0) (pre .1 .0 .0) (pre .1 .0 .1) (record-found 4 7 _ _ (next-is d) .passes)),
       next-room _ _ _ _ _ _ _ _ (t .before .loop .inv) (t .loop-test .taken) (pre .0 .1) (next-is d) (pre .1 .1),
     )
 
 part-rest-start : tie.Need-part-rest-start Inv-loop μ-loop
-part-rest-start c = next-found _ _ _ (next-is (c .before .before .before .before .before)) .stop
+part-rest-start c = record-within 4 7 _ _ (next-is (c .before .before .before .before .before))
 
 row-put : (c : tie.After-put-row Inv-loop μ-loop)
     → let l = c .before .before .before .before .before .before .before .before .loop in
@@ -74,28 +73,11 @@ returns-2 : tie.Need-returns-2 Inv-loop μ-loop
 returns-2 c =
     let l = c .before .before .loop in
     let last = c .before .loop-test .left in
-    (c .judge-end .ensures ∙ sym (end-reached _ _ _ _ _ _ _ _ (l .inv) last), all-reached _ _ _ _ _ _ _ _ (l .inv) last)
+    (c .judge-end .ensures _ _ ∙ sym (end-reached _ _ _ _ _ _ _ _ (l .inv) last), all-reached _ _ _ _ _ _ _ _ (l .inv) last)
 
 pub decode-rules-spec : {M : Type 1} → statement M
 decode-rules-spec =
     tie.close
-    (tie.spec
-    Inv-loop
-    μ-loop
-    (λ c. none-reached _ _ _ _ _)
-    (λ c κs. search needs)
-    (λ c. search needs)
-    (λ c. search needs)
-    returns
-    (λ c. search needs)
-    (λ c κs. search needs)
-    put-row-requires
-    part-rest-start
-    part-rest-start
-    (λ c. search needs)
-    (λ c. search needs)
-    (λ c. search needs)
-    loop-again
-    (λ c κs. search needs)
-    (λ c. search needs)
-    returns-2)
+    (tie.spec Inv-loop μ-loop (λ c. none-reached _ _ _ _ _) (λ c κs. search needs) (λ c. search needs) (λ c. search needs) returns
+    (λ c. search needs) (λ c κs. search needs) put-row-requires part-rest-start part-rest-start (λ c. search needs)
+    (λ c. search needs) (λ c. search needs) loop-again (λ c κs. search needs) (λ c. search needs) returns-2)

@@ -1,4 +1,4 @@
--- `automaton::decoding::set_of` meets its contract: the numbers from the index on are still to be added.
+-- The numbers from the index on are still to be added.
 use borrow.Author.Needs.{needs}
 use native.Mathlib.Omega.{arith}
 use Prim.Native.Nat.{ℕ, _+_, _-_, _≤_, _<_}
@@ -8,7 +8,7 @@ use denote.Ref.{now}
 use lib.ListN.{length, drop}
 use Rattle.lists.specs.Lists.{All}
 use Rattle.lists.proofs.Elements.{all-first, all-rest}
-use Rattle.sets.specs.Set.{withAll, setOf}
+use Rattle.sets.specs.Inner.{withAll, setOf}
 use Rattle.records.specs.Bytes.{number2, numbers}
 use Rattle.records.proofs.Fields.{numbers-step, numbers-end}
 use Rattle.automaton.proofs.decoding.set_of.Tie as tie
@@ -52,16 +52,5 @@ returns c = sym (c .before .loop .inv .2 ∙ rw (numbers-end _ _ (c .loop-test .
 pub set-of-spec : {M : Type 1} → statement M
 set-of-spec =
     tie.close
-    (tie.spec
-    Inv-loop
-    μ-loop
-    (λ c κs. search needs)
-    loop-holds
-    (λ c. search needs)
-    (λ c κs. search needs)
-    cast-with
-    (λ c κs. search needs)
-    (λ c. search needs)
-    (λ c. search needs)
-    loop-again
-    returns)
+    (tie.spec Inv-loop μ-loop (λ c κs. search needs) loop-holds (λ c. search needs) (λ c κs. search needs) cast-with
+    (λ c κs. search needs) (λ c. search needs) (λ c. search needs) loop-again returns)

@@ -16,8 +16,8 @@ rank-is c = c .pre .1 ∙ length-children (c .pre .0)
 add-end : tie.Need-add-end
 add-end c = omega (arith, rank-is c, c .pre .0 .room, c .pre .0 .rank)
 
-within : tie.Need-part-result-end
-within c = omega (arith, rank-is c, c .pre .0 .room, c .pre .0 .rank)
+end-within : tie.Need-part-result-end
+end-within c = omega (arith, rank-is c, c .pre .0 .room, c .pre .0 .rank)
 
 returns : tie.Need-returns
 unfolding ruleAt
@@ -26,4 +26,4 @@ returns c = rw (add-sub-cancel-left, rank-is _)
 pub children-of-rank-spec : {M : Type 1} → statement M
 children-of-rank-spec =
     tie.close
-    (tie.spec (λ c. search needs) (λ c. search needs) add-end (λ c. search needs) (λ c. search needs) within returns)
+    (tie.spec (λ c. search needs) (λ c. search needs) add-end (λ c. search needs) (λ c. search needs) end-within returns)

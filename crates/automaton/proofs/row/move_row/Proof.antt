@@ -7,7 +7,8 @@ use lib.ListN.{getD}
 use denote.Ref.{now}
 use Rattle.automaton.specs.Row.{width, ruleAt}
 use Rattle.automaton.proofs.row.move_row.Tie as tie
-use Rattle.automaton.proofs.Rows.{children-few, rule-bytes, Stored, stored-none, stored-next, stored-puts}
+use Rattle.automaton.proofs.Rows.{row-children-few}
+use Rattle.automaton.proofs.row.Storing.{rule-bytes, Stored, stored-none, stored-next, stored-puts}
 use Rattle.automaton.proofs.row.move_row.Statement.{statement}
 
 abbrev Inv-loop : tie.InvT-loop
@@ -29,7 +30,7 @@ returns c =
     let s = c .before .before in
     let row = s .pre .0 in
     stored-puts (c .before .loop .inv .1) (ruleAt (now (s .args .rows)) (s .args .i)) (omega arith) (omega arith)
-    (omega (arith, children-few row)) (rule-bytes row)
+    (omega (arith, row-children-few row)) (rule-bytes row)
 
 pub move-row-spec : {M : Type 1} → statement M
 move-row-spec =

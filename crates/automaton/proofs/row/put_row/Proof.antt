@@ -8,8 +8,8 @@ use denote.Ref.{now}
 use Rattle.automaton.specs.Table.{ruleIn}
 use Rattle.automaton.specs.Row.{width}
 use Rattle.automaton.proofs.row.put_row.Tie as tie
-use Rattle.automaton.proofs.Rows.{bytesOf, child-byte, Stored, stored-none, stored-next, stored-both, stored-puts, body-byte}
-use Rattle.automaton.proofs.Rows.{body-child, body-rank}
+use Rattle.automaton.proofs.row.Storing.{bytesOf, child-byte, Stored, stored-none, stored-next, stored-both, stored-puts, body-byte}
+use Rattle.automaton.proofs.row.Storing.{body-child, body-rank}
 use Rattle.automaton.proofs.row.put_row.Statement.{statement}
 
 abbrev Inv-loop : tie.InvT-loop

@@ -10,8 +10,8 @@ use denote.Ref.{now}
 use Rattle.automaton.specs.Automaton.{renamed}
 use Rattle.automaton.specs.Row.{width, ruleAt}
 use Rattle.automaton.proofs.row.rename_row.Tie as tie
-use Rattle.automaton.proofs.Rows.{bytesOf, child-byte, renamed-rank, renamed-child, Stored, stored-none, stored-next, stored-still}
-use Rattle.automaton.proofs.Rows.{stored-both, stored-puts}
+use Rattle.automaton.proofs.row.Storing.{bytesOf, child-byte, renamed-rank, renamed-child, Stored, stored-none, stored-next, stored-already}
+use Rattle.automaton.proofs.row.Storing.{stored-both, stored-puts}
 use Rattle.automaton.proofs.row.rename_row.Statement.{statement}
 
 abbrev Inv-loop : tie.InvT-loop
@@ -60,7 +60,7 @@ head-stored : (c : tie.After-shared-slice-known Inv-loop μ-loop)
     (set rows (width * a .i + 1) (name (getD rows (width * a .i + 1) 0)))
 unfolding renamed ruleAt
 head-stored c =
-    stored-still (stored-next (stored-still (stored-none _ _ _) (rw add-zero)) (omega arith) _ _ refl refl)
+    stored-already (stored-next (stored-already (stored-none _ _ _) (rw add-zero)) (omega arith) _ _ refl refl)
     (sym (renamed-rank (c .before .before .before .pre .0) _))
 
 returns : tie.Need-returns Inv-loop μ-loop

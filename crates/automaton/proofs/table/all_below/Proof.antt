@@ -1,4 +1,4 @@
--- `automaton::table::all_below` meets its contract: the fields from the index on decide what all fields decide.
+-- The fields from the index on decide what all fields decide.
 use borrow.Author.Needs.{needs}
 use borrow.Author.Tests.{lt-ltb, le-ltb}
 use native.Mathlib.Omega.{arith}
@@ -9,9 +9,9 @@ use lib.ListN.{length, drop}
 use lib.Dec.{ltb}
 use denote.Ref.{now}
 use Rattle.lists.specs.Lists.{all}
-use Rattle.records.specs.Bytes.{numbers}
+use Rattle.records.specs.Bytes.{number2, numbers}
+use Rattle.records.proofs.Fields.{numbers-step, numbers-end}
 use Rattle.automaton.proofs.table.all_below.Tie as tie
-use Rattle.automaton.proofs.table.Scanning.{fields-stop, fields-go-on, fields-end}
 use Rattle.automaton.proofs.table.all_below.Statement.{statement}
 
 abbrev below : ℕ → ℕ → Bool
@@ -24,34 +24,31 @@ abbrev μ-loop : tie.MeasureT-loop
 μ-loop b n i₀ i = length b - i
 
 returns : tie.Need-returns Inv-loop μ-loop
+unfolding all
 returns c =
     let a = c .before .before .before .before .before .args in
     let l = c .before .before .before .loop in
-    sym (l .inv .1 ∙ fields-stop (below (a .n)) (now (a .b)) (l .i) (search needs) (le-ltb _ (a .n) (omega arith)))
+    let b = now (a .b) in
+    sym (l .inv .1 ∙ rw (numbers-step b (l .i) (search needs), le-ltb (number2 (drop (l .i) b)) (a .n) (omega arith)))
 
 loop-again : tie.Need-loop-again Inv-loop μ-loop
+unfolding all
 loop-again c =
     let a = c .before .before .before .before .before .args in
-    let l = c .before .before .before .loop in (
+    let l = c .before .before .before .loop in
+    let b = now (a .b) in (
       search needs,
-      l .inv .1 ∙ fields-go-on (below (a .n)) (now (a .b)) (l .i) (search needs) (lt-ltb _ (a .n) (omega arith)),
+      l .inv .1 ∙ rw (numbers-step b (l .i) (search needs), lt-ltb (number2 (drop (l .i) b)) (a .n) (omega arith)),
     )
 
 returns-2 : tie.Need-returns-2 Inv-loop μ-loop
-returns-2 c = let l = c .before .loop in sym (l .inv .1 ∙ fields-end (below _) _ (l .i) (search needs))
+unfolding all
+returns-2 c =
+    let l = c .before .loop in
+    sym (l .inv .1 ∙ rw (numbers-end (now (c .before .before .before .args .b)) (l .i) (search needs)))
 
 pub all-below-spec : {M : Type 1} → statement M
 all-below-spec =
     tie.close
-    (tie.spec
-    Inv-loop
-    μ-loop
-    (λ c. search needs)
-    (λ c. search needs)
-    (λ c κs. search needs)
-    (λ c. search needs)
-    returns
-    (λ c. search needs)
-    (λ c. search needs)
-    loop-again
-    returns-2)
+    (tie.spec Inv-loop μ-loop (λ c. search needs) (λ c. search needs) (λ c κs. search needs) (λ c. search needs) returns
+    (λ c. search needs) (λ c. search needs) loop-again returns-2)

@@ -1,4 +1,4 @@
--- `automaton::table::all_ranks` meets its contract: the bytes from the index on decide what all bytes decide.
+-- The bytes from the index on decide what all bytes decide.
 use borrow.Author.Needs.{needs}
 use Prim.Native.Nat.{ℕ, _-_, _≤_}
 use mathlib.Core.Path.{_≡_, sym, _∙_}
@@ -36,13 +36,5 @@ returns-2 c = let l = c .before .loop in sym (l .inv .1 ∙ all-end is-rank _ (l
 pub all-ranks-spec : {M : Type 1} → statement M
 all-ranks-spec =
     tie.close
-    (tie.spec
-    Inv-loop
-    μ-loop
-    (λ c. search needs)
-    (λ c. search needs)
-    returns
-    (λ c. search needs)
-    (λ c. search needs)
-    loop-again
+    (tie.spec Inv-loop μ-loop (λ c. search needs) (λ c. search needs) returns (λ c. search needs) (λ c. search needs) loop-again
     returns-2)

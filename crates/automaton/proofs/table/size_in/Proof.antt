@@ -1,6 +1,6 @@
--- `automaton::table::size_in` meets its contract: three numbers of two bytes.
+-- Three numbers of two bytes.
 use borrow.Author.Needs.{needs}
-use Rattle.automaton.specs.Inner.{sizeIn}
+use Rattle.automaton.specs.Table.{sizeIn}
 use Rattle.automaton.proofs.table.size_in.Tie as tie
 use Rattle.automaton.proofs.table.size_in.Statement.{statement}
 
@@ -11,11 +11,5 @@ returns c = rw (c .before .before .number2 .ensures, c .before .number22 .ensure
 pub size-in-spec : {M : Type 1} → statement M
 size-in-spec =
     tie.close
-    (tie.spec
-    (λ c κs. search needs)
-    (λ c. search needs)
-    (λ c κs. search needs)
-    (λ c. search needs)
-    (λ c κs. search needs)
-    (λ c. search needs)
-    returns)
+    (tie.spec (λ c κs. search needs) (λ c. search needs) (λ c κs. search needs) (λ c. search needs) (λ c κs. search needs)
+    (λ c. search needs) returns)

@@ -8,23 +8,23 @@ use Rattle.automaton.specs.Row.{ruleAt}
 use Rattle.automaton.proofs.writing.put_rule.Tie as tie
 use Rattle.automaton.proofs.writing.Parts.{over-rule}
 use Rattle.automaton.proofs.Encoding.{length-rule}
-use Rattle.automaton.proofs.Rows.{children-few}
+use Rattle.automaton.proofs.Rows.{row-children-few}
 use Rattle.automaton.proofs.writing.put_rule.Statement.{statement}
 
 abbrev start : tie.After-children-of → tie.Start
 start c = c .before .before .before
 
 -- The children are those of the rule, at most eight, and there is room for the record.
-few : (c : tie.After-children-of) → length (c .children-of .result .now) ≤ 8
-few c = rw (c .children-of .ensures) (children-few (start c .pre .0))
+children-few : (c : tie.After-children-of) → length (c .children-of .result .now) ≤ 8
+children-few c = rw (c .children-of .ensures) (row-children-few (start c .pre .0))
 
-fits : (c : tie.After-children-of) → start c .args .at + (10 + 2 * length (c .children-of .result .now)) ≤ length (start c .args .out .now)
-fits c =
+record-fits : (c : tie.After-children-of) → start c .args .at + (10 + 2 * length (c .children-of .result .now)) ≤ length (start c .args .out .now)
+record-fits c =
     let args = start c .args in
     omega (arith, ap length (c .children-of .ensures), length-rule (ruleAt (args .rows .now) (args .i)))
 
 put-head-requires : tie.Need-put-head-requires
-put-head-requires c κs = omega (arith, few (c .before), fits (c .before))
+put-head-requires c κs = omega (arith, children-few (c .before), record-fits (c .before))
 
 abbrev after-head : tie.After-put2-arg → tie.After-children-of
 after-head c = c .before .before .before .before .before
@@ -59,12 +59,12 @@ returns c =
 pub put-rule-spec : {M : Type 1} → statement M
 put-rule-spec =
     tie.close
-    (tie.spec (λ c κs. search needs) (λ c. omega (arith, few (c .before))) (λ c. omega (arith, few (c .before))) put-head-requires
-    (λ c. omega (arith, fits (after-head c)))
-    (λ c κs. search needs) (λ c. search needs) (λ c κs. omega (arith, fits (after-head (c .before))))
-    (λ c. omega (arith, fits (after-head (after-symbol c)))) (λ c κs. search needs) (λ c. search needs)
-    (λ c κs. omega (arith, fits (after-head (after-symbol (c .before)))))
-    (λ c. omega (arith, fits (at-fields c))) (λ c κs. omega (arith, fits (at-fields c)))
-    (λ c. omega (arith, fits (at-fields (at-end c))))
-    (λ c. omega (arith, few (at-fields (at-end c)))) (λ c. omega (arith, fits (at-fields (at-end c))))
+    (tie.spec (λ c κs. search needs) (λ c. omega (arith, children-few (c .before))) (λ c. omega (arith, children-few (c .before))) put-head-requires
+    (λ c. omega (arith, record-fits (after-head c)))
+    (λ c κs. search needs) (λ c. search needs) (λ c κs. omega (arith, record-fits (after-head (c .before))))
+    (λ c. omega (arith, record-fits (after-head (after-symbol c)))) (λ c κs. search needs) (λ c. search needs)
+    (λ c κs. omega (arith, record-fits (after-head (after-symbol (c .before)))))
+    (λ c. omega (arith, record-fits (at-fields c))) (λ c κs. omega (arith, record-fits (at-fields c)))
+    (λ c. omega (arith, record-fits (at-fields (at-end c))))
+    (λ c. omega (arith, children-few (at-fields (at-end c)))) (λ c. omega (arith, record-fits (at-fields (at-end c))))
     (λ c. search needs) returns)

@@ -1,12 +1,9 @@
 -- The loop's run grows by a state or nothing a turn.
-use Prim.Native.Nat.{_+_, _-_, _≤_}
-use mathlib.Core.Path.{_≡_}
-use native.Mathlib.Omega.{arith}
-use lib.ListN.{length}
+use Prim.Native.Nat.{_-_}
+use mathlib.Core.Path.{refl}
 use borrow.Author.Needs.{needs}
 use Rattle.lists.specs.Lists.{from, keep}
-use Rattle.lists.specs.Over.{over}
-use Rattle.lists.proofs.Overwriting.{over-nil, length-step, room-for-step, over-step}
+use Rattle.lists.proofs.Overwriting.{Writing, writing-none, writing-room, writing-next, writing-all}
 use Rattle.sets.specs.Set.{member}
 use Rattle.records.specs.Bytes.{fields}
 use Rattle.automaton.proofs.writing.put_states.Tie as tie
@@ -14,43 +11,28 @@ use Rattle.automaton.proofs.writing.Parts.{states}
 use Rattle.automaton.proofs.writing.put_states.Statement.{statement}
 
 abbrev Inv-loop : tie.InvT-loop
-Inv-loop out₀ at set n next₀ q₀ out next q =
-    let bytes = states (member (set .words)) .upto q in
-    (q ≤ n) × (length out ≡ length out₀) × (next ≡ at + length bytes) × (out ≡ over out₀ at bytes)
+Inv-loop out₀ at set n next₀ q₀ out next q = Writing (states (member (set .words))) out₀ at n out next q
 
 abbrev μ-loop : tie.MeasureT-loop
 μ-loop out₀ at set n next₀ q₀ out next q = n - q
 
 loop-holds : tie.Need-loop-holds Inv-loop μ-loop
 unfolding fields keep from
-loop-holds c = (search needs, search needs, search needs, over-nil _ _)
+loop-holds c = writing-none _ _ _ _ refl
 
 put-state-requires : tie.Need-put-state-requires Inv-loop μ-loop
 put-state-requires c κs =
-    let args = c .before .before .before .before .args in
-    omega (
-      arith,
-      room-for-step (states (member (args .set .words))) (args .at) (length (args .out .now))
-          (c .before .before .loop .q) (args .n) (omega arith) (omega arith),
-    )
+    writing-room (c .before .before .loop .inv) (c .before .loop-test .taken) (c .before .before .before .before .pre .1)
 
 loop-again : tie.Need-loop-again Inv-loop μ-loop
 loop-again c =
-    let turn = c .before .before .before .before .before in
-    let args = turn .before .before .args in
-    let run = states (member (args .set .words)) in
-    let call = c .before .before .put-state in (
-      search needs,
-      search needs,
-      omega (arith, length-step run (turn .loop .q)),
-      over-step run _ _ (turn .loop .q) (args .n) (omega arith) (omega arith) _ _ _
-          (turn .loop .inv .3) (call .ensures .1) (turn .loop .inv .2),
-    )
+    let turn = c .before .before .before .before in
+    let call = c .before .before .put-state in
+    writing-next (turn .before .loop .inv) (turn .loop-test .taken) (turn .before .before .before .pre .1) _ _
+    (call .ensures .0) (call .ensures .1)
 
 returns : tie.Need-returns Inv-loop μ-loop
-returns c =
-    let all : c .before .loop .q ≡ c .before .before .before .args .n = omega arith in
-    rw (← all) (c .before .loop .inv .3)
+returns c = writing-all (c .before .loop .inv) (c .loop-test .left)
 
 pub put-states-spec : {M : Type 1} → statement M
 put-states-spec =

@@ -11,7 +11,7 @@ use Rattle.automaton.specs.Row.{ruleAt, rulesIn, Row}
 use Rattle.automaton.proofs.writing.rules_length.Tie as tie
 use Rattle.automaton.proofs.writing.Parts.{rules}
 use Rattle.automaton.proofs.Encoding.{length-rule}
-use Rattle.automaton.proofs.Rows.{children-few}
+use Rattle.automaton.proofs.Rows.{row-children-few}
 use Rattle.automaton.proofs.writing.rules_length.Statement.{statement}
 
 abbrev Inv-loop : tie.InvT-loop
@@ -24,18 +24,18 @@ loop-holds : tie.Need-loop-holds Inv-loop μ-loop
 unfolding encodeRules rulesIn from
 loop-holds c = search needs
 
-row : (c : tie.In-loop Inv-loop μ-loop) → Row (c .before .before .before .args .rows .now) (c .before .loop .i)
-row c = c .before .before .before .pre .row (c .before .loop .i) (c .loop-test .taken)
+row-there : (c : tie.In-loop Inv-loop μ-loop) → Row (c .before .before .before .args .rows .now) (c .before .loop .i)
+row-there c = c .before .before .before .pre .row (c .before .loop .i) (c .loop-test .taken)
 
 -- What is added: the children are those of the rule, at most eight.
-few : (c : tie.After-children-of Inv-loop μ-loop) → length (c .children-of .result .now) ≤ 8
-few c = rw (c .children-of .ensures) (children-few (row (c .before)))
+children-few : (c : tie.After-children-of Inv-loop μ-loop) → length (c .children-of .result .now) ≤ 8
+children-few c = rw (c .children-of .ensures) (row-children-few (row-there (c .before)))
 
 loop-again : tie.Need-loop-again Inv-loop μ-loop
 loop-again c =
     let rows = c .before .before .before .before .args .rows .now in
     let i = c .before .before .loop .i in
-    omega (arith, few c, ap length (c .children-of .ensures), length-step (rules rows) i, length-rule (ruleAt rows i))
+    omega (arith, children-few c, ap length (c .children-of .ensures), length-step (rules rows) i, length-rule (ruleAt rows i))
 
 returns : tie.Need-returns Inv-loop μ-loop
 returns c =
@@ -45,5 +45,5 @@ returns c =
 pub rules-length-spec : {M : Type 1} → statement M
 rules-length-spec =
     tie.close
-    (tie.spec Inv-loop μ-loop loop-holds (λ c κs. row c) (λ c. omega (arith, few c)) (λ c. omega (arith, few c))
-    (λ c. omega (arith, few c, c .before .before .before .before .pre .count)) (λ c. search needs) (λ c. search needs) loop-again returns)
+    (tie.spec Inv-loop μ-loop loop-holds (λ c κs. row-there c) (λ c. omega (arith, children-few c)) (λ c. omega (arith, children-few c))
+    (λ c. omega (arith, children-few c, c .before .before .before .before .pre .count)) (λ c. search needs) (λ c. search needs) loop-again returns)

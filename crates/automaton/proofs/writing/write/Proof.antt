@@ -14,23 +14,23 @@ use Rattle.automaton.specs.Table.{encode}
 use Rattle.automaton.specs.Decoded.{automatonIn}
 use Rattle.automaton.proofs.writing.write.Tie as tie
 use Rattle.automaton.proofs.Held.{few-states, few-symbols}
-use Rattle.automaton.proofs.writing.Parts.{length-encode, over-records}
+use Rattle.automaton.proofs.writing.Parts.{length-written, over-records}
 use Rattle.automaton.proofs.writing.write.Statement.{statement}
 
-states : (c : tie.Start) → c .args .size .states ≤ 256
-states c = few-states _ _ _ _ (c .pre .1 .1)
+states-few : (c : tie.Start) → c .args .size .states ≤ 256
+states-few c = few-states _ _ _ _ (c .pre .1 .1)
 
-symbols : (c : tie.Start) → c .args .size .symbols ≤ 256
-symbols c = few-symbols _ _ _ _ (c .pre .1 .1) (c .pre .0)
+symbols-few : (c : tie.Start) → c .args .size .symbols ≤ 256
+symbols-few c = few-symbols _ _ _ _ (c .pre .1 .1) (c .pre .0)
 
-rules : (c : tie.Start) → c .args .size .rules ≤ 1024
-rules c = c .pre .1 .0 .count
+rules-few : (c : tie.Start) → c .args .size .rules ≤ 1024
+rules-few c = c .pre .1 .0 .count
 
-few-finals : (c : tie.After-count-states) → c .count-states .result ≤ 256
-few-finals c =
+finals-few : (c : tie.After-count-states) → c .count-states .result ≤ 256
+finals-few c =
     let start = c .before .before .before .before in
     let args = start .args in
-    omega (arith, states start, kept-few (member (args .finals .words)) (args .size .states))
+    omega (arith, states-few start, kept-few (member (args .finals .words)) (args .size .states))
 
 -- From here on the length of the bytes is known.
 abbrev start : tie.After-rules-length → tie.Start
@@ -45,7 +45,7 @@ counted : (c : tie.After-rules-length) → length (bytes c)
     ≡ 24 + start c .args .size .symbols + 2 * c .before .count-states .result + c .rules-length .result
 counted c =
     let args = start c .args in
-    omega (arith, length-encode (args .size) (args .finals .words) (args .ranks .now) (args .rows .now) (start c .pre .0))
+    omega (arith, length-written (args .size) (args .finals .words) (args .ranks .now) (args .rows .now) (start c .pre .0))
 
 returns : tie.Need-returns
 unfolding writingOf
@@ -57,7 +57,7 @@ returns c =
 put-size-requires : tie.Need-put-size-requires
 put-size-requires c κs =
     let at = start (c .before .before) in
-    (omega (arith, counted (c .before .before)), (states at, (symbols at, rules at)))
+    (omega (arith, counted (c .before .before)), (states-few at, (symbols-few at, rules-few at)))
 
 abbrev at-ranks : tie.After-put-ranks-arg → tie.After-rules-length
 at-ranks c = c .before .before .before .before .before .before
@@ -65,14 +65,14 @@ at-ranks c = c .before .before .before .before .before .before
 put-ranks-requires : tie.Need-put-ranks-requires
 put-ranks-requires c κs =
     let there = at-ranks c in
-    ((symbols (start there), start there .pre .0), omega (arith, counted there))
+    ((symbols-few (start there), start there .pre .0), omega (arith, counted there))
 
 abbrev at-finals : tie.After-put-finals-arg → tie.After-rules-length
 at-finals c = at-ranks (c .before .before .before .before)
 
 put-finals-requires : tie.Need-put-finals-requires
 put-finals-requires c κs =
-    (states (start (at-finals c)), (at-finals c .before .count-states .ensures, omega (arith, counted (at-finals c))))
+    (states-few (start (at-finals c)), (at-finals c .before .count-states .ensures, omega (arith, counted (at-finals c))))
 
 put-rules-requires : tie.Need-put-rules-requires
 put-rules-requires c κs =
@@ -99,8 +99,8 @@ returns-2 c =
 pub write-spec : {M : Type 1} → statement M
 write-spec =
     tie.close
-    (tie.spec (λ c κs. states (c .before .before .before)) (λ c. search needs) (λ c. omega (arith, few-finals c))
-    (λ c. omega (arith, few-finals c)) (λ c κs. c .before .before .before .before .pre .1 .0)
-    (λ c. omega (arith, few-finals (c .before), symbols (start c), rules (start c))) returns
+    (tie.spec (λ c κs. states-few (c .before .before .before)) (λ c. search needs) (λ c. omega (arith, finals-few c))
+    (λ c. omega (arith, finals-few c)) (λ c κs. c .before .before .before .before .pre .1 .0)
+    (λ c. omega (arith, finals-few (c .before), symbols-few (start c), rules-few (start c))) returns
     put-size-requires put-ranks-requires (λ c. search needs) put-finals-requires (λ c. search needs)
     (λ c. search needs) (λ c. search needs) put-rules-requires (λ c. search needs) returns-2)

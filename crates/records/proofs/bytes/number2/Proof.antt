@@ -1,4 +1,4 @@
--- `automaton::bytes::number2` meets its contract: each of the two bytes is below 256.
+-- Each of the two bytes is below 256.
 use borrow.Author.Needs.{needs}
 use native.Mathlib.Omega.{arith}
 use Prim.Native.Nat.{_+_}
@@ -32,12 +32,5 @@ returns c = simp (getD-drop, add-zero)
 pub number2-spec : {M : Type 1} → statement M
 number2-spec =
     tie.close
-    (tie.spec
-    (λ c. search needs)
-    cast-result
-    (λ c. search needs)
-    (λ c. search needs)
-    cast-result-2
-    mul-result
-    add-result-2
+    (tie.spec (λ c. search needs) cast-result (λ c. search needs) (λ c. search needs) cast-result-2 mul-result add-result-2
     returns)

@@ -1,4 +1,4 @@
--- `automaton::bytes::number4` meets its contract: two numbers of two bytes, one after the other.
+-- Two numbers of two bytes, one after the other.
 use borrow.Author.Needs.{needs}
 use Rattle.records.specs.Bytes.{number4}
 use Rattle.records.proofs.bytes.number4.Tie as tie

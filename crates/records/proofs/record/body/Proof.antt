@@ -1,4 +1,4 @@
--- `automaton::record::body` meets its contract: a record that opens lies within the bytes; otherwise the body is empty.
+-- A record that opens lies within the bytes; otherwise the body is empty.
 use borrow.Author.Needs.{needs}
 use mathlib.Core.Path.{_≡_, sym}
 use denote.Ref.{now}
@@ -16,10 +16,10 @@ is-record : (c : tie.After-known-told)
 unfolding openingOf
 is-record c = told openingOf (c .before .before .before .open .ensures) (c .before .o .given .1)
 
-within : (c : tie.After-known-told)
+lies-within : (c : tie.After-known-told)
     → let o = c .before .o .given .0 in
     Within (now (c .before .before .before .before .before .args .t)) (o .0) (o .1 .0)
-within c = opened-within _ _ _ (is-record c)
+lies-within c = opened-within _ _ _ (is-record c)
 
 returns : tie.Need-returns
 returns c = none-opens _ _ (c .before .before .open .ensures) (c .before .match .keys2)
@@ -30,12 +30,5 @@ returns-2 c = sym (body-within _ (is-record (c .before)))
 pub body-spec : {M : Type 1} → statement M
 body-spec =
     tie.close
-    (tie.spec
-    (λ c κs. search needs)
-    (λ c. search needs)
-    (λ c. search needs)
-    returns
-    (λ c. within c .start)
-    (λ c. within c .start)
-    (λ c. within c .stop)
-    returns-2)
+    (tie.spec (λ c κs. search needs) (λ c. search needs) (λ c. search needs) returns (λ c. lies-within c .start)
+    (λ c. lies-within c .start) (λ c. lies-within c .stop) returns-2)

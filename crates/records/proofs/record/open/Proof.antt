@@ -1,4 +1,4 @@
--- `automaton::record::open` meets its contract: each return is one of the cases of `opened`.
+-- Each return is one of the cases of `opened`.
 use borrow.Author.Needs.{needs}
 use native.Mathlib.Omega.{arith}
 use mathlib.Core.Path.{sym}
@@ -34,13 +34,5 @@ returns-5 c =
 pub open-spec : {M : Type 1} → statement M
 open-spec =
     tie.close
-    (tie.spec
-    returns
-    returns-2
-    (λ c κs. search needs)
-    returns-3
-    (λ c. search needs)
-    returns-4
-    (λ c κs. search needs)
-    (λ c. search needs)
-    returns-5)
+    (tie.spec returns returns-2 (λ c κs. search needs) returns-3 (λ c. search needs) returns-4 (λ c κs. search needs)
+    (λ c. search needs) returns-5)

@@ -1,4 +1,4 @@
--- `simulation::entries::entry` meets its contract: four words, one after the other.
+-- Four words, one after the other.
 use borrow.Author.Needs.{needs}
 use Rattle.sets.proofs.entries.entry.Tie as tie
 use Rattle.sets.proofs.EntrySets.{entry-words}

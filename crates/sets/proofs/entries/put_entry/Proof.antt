@@ -1,4 +1,4 @@
--- `simulation::entries::put_entry` meets its contract: four words, one after the other.
+-- Four words, one after the other.
 use borrow.Author.Needs.{needs}
 use native.Mathlib.Omega.{arith}
 use mathlib.Core.Path.{_≡_}
