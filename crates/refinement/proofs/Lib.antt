@@ -3,3 +3,4 @@ pub mod Simulations
 pub mod Maximality
 pub mod Pairs
 pub mod RelationRows
+pub mod Answering

@@ -2,15 +2,15 @@
 use Prim.Native.Nat.{ℕ, zero, suc, _+_, _*_, _-_, _≤_}
 use mathlib.Core.Path.{_≡_, refl, sym, _∙_}
 use mathlib.Core.List.{List, [], _∷_, map, List·Memᴰ, List·Memᴰ·head, List·Memᴰ·tail, Memᴰ·cast}
-use mathlib.Core.Bool.{Bool, true, false, cond, false≢true}
+use mathlib.Core.Bool.{Bool, true}
 use native.Mathlib.Nat.{zero-mul, suc-mul, mul-suc}
 use native.Mathlib.Omega.{arith}
 use lib.ListN.{length, length-append, length-map}
 use lib.Dec.{eqb}
 use borrow.Author.Tests.{eq-eqb, eqb-true}
 use Rattle.lists.specs.Lists.{keep}
-use Rattle.lists.proofs.Keeping.{keep-append, keep-shorter}
-use Rattle.lists.proofs.Booleans.{and-true-in}
+use Rattle.lists.proofs.Keeping.{keep-append, keep-map, keep-both, keep-agree, keep-in, keep-shorter}
+use Rattle.lists.proofs.Booleans.{and-true-in, and-true-out, same-bool}
 use Rattle.automaton.specs.Automaton.{Rule}
 use Rattle.refinement.specs.Simulation.{Matched, Simulates, Relation, survives, refine, allPairs, relationAt, rounds, relation}
 use Rattle.refinement.proofs.Refinement.{Within, related-member, member-related, pair-member, member-pair, refine-related}
@@ -35,11 +35,11 @@ Closed rules states =
     (u : Rule) → List·Memᴰ u rules → List·Memᴰ (u .target) states
     → (q : ℕ) → List·Memᴰ q (u .children) → List·Memᴰ q states
 
-abbrev pub Same : List ℕ → ℕ → ℕ → Type 0
+abbrev Same : List ℕ → ℕ → ℕ → Type 0
 Same states q r = (q ≡ r) × List·Memᴰ q states
 
 module _ (rules : List Rule) (states : List ℕ) where
-  pub same-simulates : Closed rules states → Simulates rules rules (Same states)
+  same-simulates : Closed rules states → Simulates rules rules (Same states)
   unfolding Closed Simulates
   same-simulates closed q r d u m e =
       record {
@@ -50,7 +50,7 @@ module _ (rules : List Rule) (states : List ℕ) where
         children = each-refl (λ p n. (refl, closed u m (Memᴰ·cast e (d .1)) p n));
       }
 
-  pub within-round : (D : ℕ → ℕ → Type 0) → Simulates rules rules D
+  within-round : (D : ℕ → ℕ → Type 0) → Simulates rules rules D
       → ((q r : ℕ) → D q r → List·Memᴰ q states × List·Memᴰ r states)
       → (j q r : ℕ) → D q r → Within (relationAt rules states j) q r
   unfolding relationAt Simulates
@@ -61,16 +61,16 @@ module _ (rules : List Rule) (states : List ℕ) where
       (matched-survives rules (relationAt rules states j) q r
       (λ u m e. matched-map (within-round D simulates inside j) (simulates q r d u m e)))
 
-  pub same-round : Closed rules states → (j q r : ℕ) → Same states q r → Within (relationAt rules states j) q r
+  same-round : Closed rules states → (j q r : ℕ) → Same states q r → Within (relationAt rules states j) q r
   same-round closed =
       within-round (Same states) (same-simulates closed) (λ q r d. (d .1, Memᴰ·cast (sym (d .0)) (d .1)))
 
-  pub round-states : (j q r : ℕ) → Within (relationAt rules states j) q r → List·Memᴰ q states × List·Memᴰ r states
+  round-states : (j q r : ℕ) → Within (relationAt rules states j) q r → List·Memᴰ q states × List·Memᴰ r states
   unfolding relationAt
   round-states zero q r e = member-pair states states (related-member (allPairs states states) q r e)
   round-states (suc j) q r e = round-states j q r (refine-out rules (relationAt rules states j) q r e .0)
 
-  pub relation-fixed : refine rules (relation rules states) ≡ relation rules states
+  relation-fixed : refine rules (relation rules states) ≡ relation rules states
   unfolding relation relationAt
   relation-fixed = rounds-fixed rules states
 
@@ -105,56 +105,42 @@ module _ (rules : List Rule) (states : List ℕ) where
 
 -- The number of rounds.
 
-pub length-pairs : (qs rs : List ℕ) → length (allPairs qs rs) ≡ length qs * length rs
+length-pairs : (qs rs : List ℕ) → length (allPairs qs rs) ≡ length qs * length rs
 unfolding allPairs
 length-pairs [] rs = sym (zero-mul (length rs))
 length-pairs (q ∷ qs) rs =
     simp (length-append, length-map) (omega (arith, suc-mul (length qs) (length rs), length-pairs qs rs))
 
 -- The pairs (q, q).
-unfoldable pub diagonal : Relation → Relation
+unfoldable diagonal : Relation → Relation
 diagonal R = keep (λ (p : ℕ × ℕ). eqb (p .0) (p .1)) R
 
-pub diagonal-kept : (test : ℕ × ℕ → Bool) (R : Relation)
+diagonal-kept : (test : ℕ × ℕ → Bool) (R : Relation)
     → ((p : ℕ × ℕ) → List·Memᴰ p R → p .0 ≡ p .1 → test p ≡ true) → diagonal (keep test R) ≡ diagonal R
-unfolding diagonal keep
-diagonal-kept test [] h = refl
-diagonal-kept test (p ∷ ps) h =
-    go (test p) refl (eqb (p .0) (p .1)) refl (diagonal-kept test ps (λ a m. h a (List·Memᴰ·tail m)))
+unfolding diagonal
+diagonal-kept test R h =
+    keep-both _ test R ∙ keep-agree _ _ R (λ p m. same-bool
+    (λ e. and-true-out (test p) _ e .1) (λ e. and-true-in (h p m (eqb-true (p .0) (p .1) e)) e))
+
+diagonal-row : {q : ℕ} (rs : List ℕ) → List·Memᴰ q rs → 1 ≤ length (diagonal (map (λ (r : ℕ). (q, r)) rs))
+unfolding diagonal
+diagonal-row {q} rs m = rw (keep-map, length-map) (some (keep-in (eqb q) m (eq-eqb q q refl)))
   where
-    kept : Relation
-    kept = keep test ps
+    some : {q : ℕ} {rs : List ℕ} → List·Memᴰ q rs → 1 ≤ length rs
+    some (List·Memᴰ·head e) = omega arith
+    some (List·Memᴰ·tail m) = omega arith
 
-    go : (t : Bool) → test p ≡ t → (d : Bool) → eqb (p .0) (p .1) ≡ d → diagonal kept ≡ diagonal ps
-        → diagonal (cond t (p ∷ kept) kept) ≡ cond d (p ∷ diagonal ps) (diagonal ps)
-    go true f d e rest = rw (e, rest)
-    go false f true e rest =
-        absurd (false≢true (sym f ∙ h p (List·Memᴰ·head refl) (eqb-true (p .0) (p .1) e)))
-    go false f false e rest = rest
-
-pub diagonal-row : {q : ℕ} {rs : List ℕ} → List·Memᴰ q rs → 1 ≤ length (diagonal (map (λ (r : ℕ). (q, r)) rs))
-unfolding diagonal keep
-diagonal-row {q} (List·Memᴰ·head {x = r} e) = rw (eq-eqb q r e) (omega arith)
-diagonal-row {q} (List·Memᴰ·tail {x = r} {xs = rs} m) = go (eqb q r) (diagonal-row m)
-  where
-    row : Relation
-    row = diagonal (map (λ (a : ℕ). (q, a)) rs)
-
-    go : (t : Bool) → 1 ≤ length row → 1 ≤ length (cond t ((q, r) ∷ row) row)
-    go true l = omega arith
-    go false l = l
-
-pub diagonal-pairs : (qs rs : List ℕ) → ((q : ℕ) → List·Memᴰ q qs → List·Memᴰ q rs)
+diagonal-pairs : (qs rs : List ℕ) → ((q : ℕ) → List·Memᴰ q qs → List·Memᴰ q rs)
     → length qs ≤ length (diagonal (allPairs qs rs))
 unfolding diagonal allPairs keep
 diagonal-pairs [] rs h = omega arith
 diagonal-pairs (q ∷ qs) rs h =
     let row : Relation = map (λ (r : ℕ). (q, r)) rs in
     rw (keep-append (λ (p : ℕ × ℕ). eqb (p .0) (p .1)) row (allPairs qs rs), length-append)
-    (omega (arith, diagonal-row (h q (List·Memᴰ·head refl)), diagonal-pairs qs rs (λ p m. h p (List·Memᴰ·tail m))))
+    (omega (arith, diagonal-row rs (h q (List·Memᴰ·head refl)), diagonal-pairs qs rs (λ p m. h p (List·Memᴰ·tail m))))
 
 module _ (rules : List Rule) (states : List ℕ) where
-  pub diagonal-round : Closed rules states → (j : ℕ) → length states ≤ length (diagonal (relationAt rules states j))
+  diagonal-round : Closed rules states → (j : ℕ) → length states ≤ length (diagonal (relationAt rules states j))
   unfolding relationAt refine
   diagonal-round closed zero = diagonal-pairs states states (λ q m. m)
   diagonal-round closed (suc j) =
@@ -173,7 +159,7 @@ module _ (rules : List Rule) (states : List ℕ) where
       let other : length (refine rules R) ≡ length R → ⊥ = λ e. rounds-least rules states j h (refine-all rules R e) in
       omega (arith, refine-shorter rules R, rounds-lose j (omega arith))
 
-  pub rounds-bound : Closed rules states → rounds rules states + length states ≤ length states * length states
+  rounds-bound : Closed rules states → rounds rules states + length states ≤ length states * length states
   unfolding diagonal
   rounds-bound closed =
       let j = rounds rules states in

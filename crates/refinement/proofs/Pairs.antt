@@ -3,10 +3,10 @@ use Prim.Native.Nat.{ℕ, zero, suc, _+_}
 use mathlib.Core.Path.{_≡_, refl, sym, ap, _∙_}
 use mathlib.Core.Logic.{_⊎_, inl, inr}
 use mathlib.Core.List.{List, [], _∷_, map, List·Memᴰ, Memᴰ·cast, Memᴰ·of-map}
-use mathlib.Core.Bool.{Bool, true, false, cond, _&&_}
-use lib.ListN.{length, length-append}
+use mathlib.Core.Bool.{Bool, true, _&&_}
+use lib.ListN.{length, length-append, length-map}
 use Rattle.lists.specs.Lists.{Distinct, bare, new, keep}
-use Rattle.lists.proofs.Keeping.{keep-append, keep-both, keep-agree, keep-all}
+use Rattle.lists.proofs.Keeping.{keep-append, keep-map, keep-both, keep-agree, keep-all}
 use Rattle.lists.proofs.Distinctness.{keep-distinct, distinct-map, distinct-append}
 use Rattle.automaton.specs.Automaton.{Rule}
 use Rattle.refinement.specs.Simulation.{Simulates, Matched, related, survives, refine, allPairs, relationAt, rounds, relation}
@@ -42,23 +42,11 @@ unfoldable pub pairsIn : (ℕ → ℕ → Bool) → List ℕ → List ℕ → �
 pairsIn f [] rs = 0
 pairsIn f (q ∷ qs) rs = length (keep (f q) rs) + pairsIn f qs rs
 
-row-length : (f : ℕ × ℕ → Bool) (q : ℕ) (rs : List ℕ)
-    → length (keep f (map (λ (r : ℕ). (q, r)) rs)) ≡ length (keep (λ (r : ℕ). f (q, r)) rs)
-unfolding keep
-row-length f q [] = refl
-row-length f q (r ∷ rs) = go (f (q, r)) (row-length f q rs)
-  where
-    go : (t : Bool) → length (keep f (map (λ (r : ℕ). (q, r)) rs)) ≡ length (keep (λ (r : ℕ). f (q, r)) rs)
-        → length (cond t ((q, r) ∷ keep f (map (λ (r : ℕ). (q, r)) rs)) (keep f (map (λ (r : ℕ). (q, r)) rs)))
-        ≡ length (cond t (r ∷ keep (λ (r : ℕ). f (q, r)) rs) (keep (λ (r : ℕ). f (q, r)) rs))
-    go true e = ap suc e
-    go false e = e
-
 all-length : (f : ℕ × ℕ → Bool) (qs rs : List ℕ) → length (keep f (allPairs qs rs)) ≡ pairsIn (λ (q r : ℕ). f (q, r)) qs rs
 unfolding allPairs keep pairsIn
 all-length f [] rs = refl
 all-length f (q ∷ qs) rs =
-    rw (keep-append f (map (λ (r : ℕ). (q, r)) rs) (allPairs qs rs), length-append, row-length f q rs, all-length f qs rs)
+    rw (keep-append, length-append, keep-map, length-map, all-length f qs rs)
 
 -- All pairs, each once.
 pairs-distinct : {qs rs : List ℕ} → Distinct qs → Distinct rs → Distinct (allPairs qs rs)

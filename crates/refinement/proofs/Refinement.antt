@@ -1,18 +1,19 @@
--- A relation in work, as a set of pairs, and that its rounds end: a round that changes something loses a pair.
+-- A relation in work, as a set of pairs: what a round keeps of it, its tests as the matches of the paper, and that its rounds end, for a round
+-- that changes something loses a pair. Maximality and the rounds are built on it.
 use Prim.Native.Nat.{ℕ, zero, suc, _≤_, _<_}
 use mathlib.Core.Path.{_≡_, refl, sym, ap, ap₂, _∙_}
 use mathlib.Core.Logic.{_⊎_, inl, inr, ⊎-elim}
 use mathlib.Core.List.{List, [], _∷_, map, List·Memᴰ, Memᴰ·cast, Memᴰ·append-left, Memᴰ·append-right, List·Memᴰ·not-nil, List·Memᴰ·head}
 use mathlib.Core.List.{List·Memᴰ·tail, List·Memᴰ·append-cases, Memᴰ·map, Memᴰ·of-map}
-use mathlib.Core.Bool.{Bool, true, false, not, cond, _&&_, _||_, and-false, false≢true}
+use mathlib.Core.Bool.{Bool, true, false, not, _&&_, _||_, false≢true}
 use native.Mathlib.Nat.{eq-or-lt-of-le}
 use native.Mathlib.Omega.{arith}
 use lib.ListN.{length}
 use lib.Dec.{eqb}
 use borrow.Author.Tests.{eq-eqb, eqb-true, eqb-false}
-use Rattle.lists.specs.Lists.{keep, any}
-use Rattle.lists.proofs.Keeping.{keep-shorter, keep-full}
-use Rattle.lists.proofs.Booleans.{and-true-out, and-true-in}
+use Rattle.lists.specs.Lists.{keep}
+use Rattle.lists.proofs.Keeping.{keep-in, keep-out, keep-shorter, keep-full}
+use Rattle.lists.proofs.Booleans.{and-true-out, and-true-in, same-bool}
 use Rattle.lists.proofs.Search.{any-in, any-out, all-in, all-out}
 use Rattle.automaton.specs.Automaton.{Rule}
 use Rattle.refinement.specs.Simulation.{Each, none, also, Matched, Relation, related, paired, matchedBy, survives, matched, refine}
@@ -63,22 +64,10 @@ member-pair (p ∷ ps) rs {q} {r} m = go (member-pair ps rs) (List·Memᴰ·appe
 
 pub keep-related : (test : ℕ × ℕ → Bool) (R : Relation) (q r : ℕ)
     → related (keep test R) q r ≡ (related R q r && test (q, r))
-unfolding related keep any
-keep-related test [] q r = refl
-keep-related test (p ∷ ps) q r = go (eqb (p .0) q && eqb (p .1) r) refl (test p) refl (keep-related test ps q r)
-  where
-    kept : Relation
-    kept = keep test ps
-
-    go : (m : Bool) → (eqb (p .0) q && eqb (p .1) r) ≡ m → (k : Bool) → test p ≡ k
-        → related kept q r ≡ (related ps q r && test (q, r))
-        → related (cond k (p ∷ kept) kept) q r ≡ ((m || related ps q r) && test (q, r))
-    go true e true f rest = rw e (sym f ∙ ap test (same-pair p q r e))
-    go true e false f rest =
-        let fails : test (q, r) ≡ false = sym (ap test (same-pair p q r e)) ∙ f in
-        rw fails at rest ∙ and-false (related ps q r) ∙ sym fails
-    go false e true f rest = rw e rest
-    go false e false f rest = rest
+keep-related test R q r =
+    same-bool
+    (λ e. let k = keep-out test R (related-member (keep test R) q r e) in and-true-in (member-related (k .0)) (k .1))
+    (λ e. let s = and-true-out (related R q r) (test (q, r)) e in member-related (keep-in test (related-member R q r (s .0)) (s .1)))
 
 pub refine-related : (rules : List Rule) (R : Relation) (q r : ℕ)
     → related (refine rules R) q r ≡ (related R q r && survives rules R (q, r))

@@ -1,5 +1,5 @@
 pub mod First
-pub mod Losses
+pub mod Going
 pub mod Narrowing
 pub mod Replacing
 pub mod Underway

@@ -1,3 +1,2 @@
 pub mod Simulation
-pub mod Words
 pub mod Inner

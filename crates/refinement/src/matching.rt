@@ -1,19 +1,14 @@
-// What a relation, held in words, says of two states, of the children of two rules, and of two rules.
+// What a relation says of two states, of the children of two rules, and of two rules. It is held in words: row q is words 4q .. 4q+3, the set
+// of the states that q is related to.
 ghost use Prim.Native.Nat.{ℕ};
 ghost use mathlib.Core.Path.{_≡_};
 ghost use mathlib.Core.List.{List·Memᴰ};
 ghost use Rattle.lists.specs.Lists.{any};
 ghost use Rattle.automaton.specs.Row.{ruleAt, Row};
 ghost use Rattle.refinement.specs.Simulation as simulation;
-ghost use Rattle.refinement.specs.Words.{relationIn};
+ghost use Rattle.refinement.specs.Inner.{relationIn};
 use automaton::children_of;
 use automaton::symbol_of;
-
-// The relation held flat: row q is words 4q .. 4q+3, the set of the states that q is related to; and the rounds it took.
-pub struct Relation {
-    pub words: [u64; 1024],
-    pub rounds: usize,
-}
 
 // Whether q is related to r.
 pub fn has_pair(words: &[u64; 1024], q: u8, r: u8) -> bool

@@ -3,7 +3,7 @@
 ghost use mathlib.Core.Path.{_≡_};
 ghost use mathlib.Core.Bool.{true, false, not, _&&_, _||_};
 ghost use mathlib.Core.List.{[]};
-ghost use Prim.Native.Nat.{ℕ, _≤_, _<_};
+ghost use Prim.Native.Nat.{ℕ, _≤_, _<_, _^_};
 ghost use lib.ListN.{length, getD};
 ghost use lib.Dec.{eqb, ltb};
 ghost use Rattle.lists.specs.Lists.{all};
@@ -13,8 +13,7 @@ ghost use Rattle.sets.specs.Inner.{Has, Below};
 ghost use Rattle.automaton.specs.Automaton.{Rule};
 ghost use Rattle.automaton.specs.Row.{ruleAt, rulesIn, Row, Rows};
 ghost use Rattle.refinement.specs.Simulation as simulation;
-ghost use Rattle.refinement.specs.Words.{relationIn};
-ghost use Rattle.refinement.specs.Inner.{Answering, Simulable, Copied, leads, touches, Quiet, Roundable, Rounded};
+ghost use Rattle.refinement.specs.Inner.{relationIn, Answering, Simulable, Copied, isTarget, answers, touches, Quiet, Roundable, Rounded};
 use crate::matching::has_match;
 use automaton::Size;
 use automaton::children_of;
@@ -55,7 +54,7 @@ fn row_of(rows: &[[u64; 4]], q: usize) -> StateSet
 fn hold_targets(others: &[u8], k: usize, holders: &mut [[u64; 4]])
     requires { ⌜ Rows (now others) k × (length (now holders) ≡ 256) ⌝ }
     requires { ⌜ ((f : ℕ) → f < 256 → getD (now holders) f [] ≡ emptySet) ⌝ }
-    ensures { λ _. ⌜ ((f : ℕ) → f < 256 → Has (getD (now (holders .exit)) f []) (leads (rulesIn (now (others .entry)) k) f)) ⌝ }
+    ensures { λ _. ⌜ ((f : ℕ) → f < 256 → Has (getD (now (holders .exit)) f []) (isTarget (rulesIn (now (others .entry)) k) f)) ⌝ }
 {
     let mut i: usize = 0;
     while i < k {
@@ -103,10 +102,9 @@ fn first_round(rows: &[u8], k: usize, holders: &[[u64; 4]], words: &mut [u64])
 fn copy_rows(states: StateSet, n: usize, words: &[u64; 1024], next: &mut [[u64; 4]]) -> StateSet
     requires { ⌜ (n ≤ 256) × (length (now next) ≡ 256) ⌝ }
     ensures { λ _. ⌜ Copied n (now (words .entry)) (now (next .exit)) ⌝ }
+    ensures { λ _. ⌜ ((q i : ℕ) → q < n → getD (entryAt (now (words .entry)) q) i 0 < 2 ^ 64) ⌝ }
     ensures { λ s. ⌜ Has (s .words) (λ (q : ℕ). ltb q n
         && (member (states .words) q && not (sameSet (entryAt (now (words .entry)) q) (states .words)))) ⌝ }
-    ensures { λ s. ⌜ ((q : ℕ) → q < 256 → member (s .words) q ≡ true
-        → Has (entryAt (now (words .entry)) q) (member (states .words)) → ⊥) ⌝ }
 {
     let mut changed = StateSet::empty();
     let mut q: usize = 0;
@@ -176,7 +174,7 @@ fn round(
         (now (others .entry)) (now (index .entry))
         → Quiet (rulesIn (now (rows .entry)) k) (rulesIn (now (others .entry)) j)
         (relationIn (now (words .entry))) (touches (changed .words))
-        → Rounded n (rulesIn (now (rows .entry)) k) (rulesIn (now (others .entry)) j)
+        → Rounded n (answers (rulesIn (now (rows .entry)) k) (rulesIn (now (others .entry)) j) (relationIn (now (words .entry))))
         (now (words .entry)) (now (next .exit)) (s .words)) ⌝ }
 {
     let mut lost = StateSet::empty();

@@ -1,18 +1,20 @@
--- The two queries: what their loops scan, the relation that a decoded table gives, and the answers.
+-- The answers of the two queries, from the words that hold the relation of a table and from the rule that has no match: for `relate`, `compare`
+-- and the theorems on them.
 use Prim.Native.Nat.{ℕ, _+_, _*_, _/_, _%_, _^_, _≤_, _<_}
 use mathlib.Core.Path.{_≡_, refl, sym, ap, _∙_}
 use mathlib.Core.Logic.{_⊎_, inl, inr, _↔_}
-use mathlib.Core.List.{List, [], _∷_}
-use mathlib.Core.Bool.{Bool, true, false, not, cond, _&&_, _||_, true≢false}
-use native.Mathlib.Nat.{zero-add}
+use mathlib.Core.List.{List}
+use mathlib.Core.Bool.{Bool, true, false, not, _&&_, false≢true}
+use native.Mathlib.Decide.{decLt}
 use native.Mathlib.Omega.{arith}
-use lib.ListN.{length, getD, drop, drop-of-length-le}
+use lib.ListN.{length, getD, drop}
 use lib.Dec.{eqb, ltb}
 use borrow.Author.Tests.{eq-eqb, eqb-true, lt-ltb, le-ltb, not-false}
-use Rattle.lists.specs.Lists.{Distinct, from, any, all}
+use Rattle.lists.specs.Lists.{Distinct, from}
 use Rattle.lists.specs.Over.{over}
-use Rattle.lists.proofs.Ranges.{length-from, from-member, member-from, from-distinct}
+use Rattle.lists.proofs.Ranges.{length-from, from-distinct}
 use Rattle.lists.proofs.Booleans.{and-true-in, and-false-left, and-false-right, or-false-out}
+use Rattle.lists.proofs.Search.{all-in}
 use Rattle.sets.proofs.StateSets.{bit}
 use Rattle.records.specs.Refusal.{numberOf}
 use Rattle.records.specs.Read.{found, refused, _>>=_, _>>_, check, mapRead}
@@ -22,102 +24,22 @@ use Rattle.records.proofs.Buffers.{room-enough, room-short}
 use Rattle.automaton.specs.Automaton.{Rule, Automaton, WellFormed}
 use Rattle.automaton.specs.Row.{ruleAt, rulesIn}
 use Rattle.automaton.specs.Table.{judge}
-use Rattle.automaton.specs.Decoded.{sizeOf, automatonIn}
-use Rattle.automaton.specs.declared.table.Size.{Size}
-use Rattle.automaton.proofs.Held.{Held}
-use Rattle.automaton.proofs.Rows.{rules-at, rules-length, rule-in}
-use Rattle.indexing.specs.Index.{keyed}
-use Rattle.indexing.proofs.Indexing.{any-keyed}
-use Rattle.refinement.specs.Simulation.{Relation, related, matchedBy, matched, survives, relation, rounds}
-use Rattle.refinement.specs.Words.{relationIn}
-use Rattle.refinement.specs.Inner.{Simulable}
+use Rattle.automaton.proofs.Rows.{rules-at, rules-each, rule-in}
+use Rattle.refinement.specs.Simulation.{Relation, related, matched, survives}
+use Rattle.refinement.specs.Inner.{relationIn, Simulable, answered}
 use Rattle.refinement.proofs.Pairs.{pairsIn, survives-related, relation-length, relation-distinct}
 use Rattle.simulation.specs.declared.query.Compared.the-variants as compared
 use Rattle.simulation.specs.declared.query.Related.the-variants as answer
-use Rattle.simulation.specs.Query.{simulationOf, roundsOf, relationBytes, relatedOf, relationQuery, relationAfter, yes, rule}
+use Rattle.simulation.specs.Query.{simulationOf, roundsOf, relationBytes, relatedOf, relationQuery, relationAfter}
 use Rattle.simulation.specs.Query.{comparisonOf, isYes, pairQuery, Unmatched, Compares}
 use Rattle.simulation.specs.declared.query.Compared.{Compared}
-use Rattle.simulation.specs.Inner.{bytesOf, onesOf, firstFailing, firstUnmatched, comparedBy}
+use Rattle.simulation.specs.Inner.{bytesOf, onesOf, FirstUnmatched, ComparedBy}
 use Rattle.simulation.proofs.RelationBytes.{bytes-rows, length-rows, rows-bit, ones-pairs}
-use Rattle.simulation.proofs.Preorder.{preorder-states, simulable-all}
+use Rattle.simulation.proofs.Preorder.{below-member, member-below, preorder-states}
 
--- Children, pair by pair.
-
--- Rules, one by one: u has another target than q or a match of target r.
-
-abbrev pub answered : List Rule → Relation → ℕ → ℕ → Rule → Bool
-answered rules R q r u = not (eqb (u .target) q) || matched rules R r u
-
--- The rules of target r, by their numbers, have a match where all rules have one of target r.
-pub matched-keyed : (rows : List ℕ) (k : ℕ) (R : Relation) (r : ℕ) (u : Rule) (numbers : List ℕ)
-    → numbers ≡ keyed (λ (u : Rule). u .target) rows r 0 k
-    → any (λ (j : ℕ). matchedBy R u (ruleAt rows j)) numbers ≡ matched (rulesIn rows k) R r u
-unfolding matched
-matched-keyed rows k R r u numbers e = rw e (any-keyed (λ (u : Rule). u .target) rows r k (matchedBy R u))
-
-module _ (test : Rule → Bool) (rows : List ℕ) (k i : ℕ) where
-  pub failing-here : i < k → test (ruleAt rows i) ≡ false → firstFailing test (drop i (rulesIn rows k)) ≡ 0
-  unfolding firstFailing
-  failing-here h e = rw (rules-at rows k i h, e)
-
-  pub failing-next : i < k → test (ruleAt rows i) ≡ true
-      → i + firstFailing test (drop i (rulesIn rows k)) ≡ i + 1 + firstFailing test (drop (i + 1) (rulesIn rows k))
-  unfolding firstFailing
-  failing-next h e = rw (rules-at rows k i h, e) (omega arith)
-
-  pub failing-end : k ≤ i → firstFailing test (drop i (rulesIn rows k)) ≡ 0
-  unfolding firstFailing
-  failing-end h = rw (drop-of-length-le (rulesIn rows k) {i = i} (omega (arith, rules-length rows k)))
-
--- The first element that fails a test.
-
-record Failing {A : Type 0} (test : A → Bool) (xs : List A) : Type 0 where
-  pub element : A
-  pub behind : List A
-  pub place : drop (firstFailing test xs) xs ≡ element ∷ behind
-  pub fails : test element ≡ false
-
-first-fails : {A : Type 0} (test : A → Bool) (xs : List A) → all test xs ≡ false → Failing test xs
-unfolding all firstFailing
-first-fails test [] h = absurd (true≢false h)
-first-fails test (x ∷ xs) h = go (test x) refl h (first-fails test xs)
-  where
-    go : (t : Bool) → test x ≡ t → (t && all test xs) ≡ false → (all test xs ≡ false → Failing test xs)
-        → Failing test (x ∷ xs)
-    go true e h later =
-        let f = later h in
-        record { element = f .element; behind = f .behind; place = rw e (f .place); fails = f .fails }
-    go false e h later = record { element = x; behind = xs; place = rw e; fails = e }
-
--- What a decoded table holds.
-
-module _ {b : List ℕ} {size : Size} {finals ranks rows : List ℕ} (held : Held b size finals ranks rows) where
-  pub states-are : size .states ≡ held .automaton .states
-  unfolding sizeOf
-  states-are = ap (λ (s : Size). s .states) (held .counts)
-
-  pub states-few : size .states ≤ 256
-  states-few = rw states-are (held .well-formed .states)
-
-  pub rules-are : rulesIn rows (size .rules) ≡ held .automaton .rules
-  unfolding automatonIn
-  rules-are = ap (λ (A : Automaton). A .rules) (held .holds)
-
-  pub held-simulable : Simulable (rulesIn rows (size .rules)) (from 0 (size .states))
-  held-simulable = rw (rules-are, states-are) (simulable-all (held .automaton) (held .well-formed))
-
-  pub relation-is : relation (rulesIn rows (size .rules)) (from 0 (size .states)) ≡ simulationOf (held .automaton)
-  unfolding simulationOf
-  relation-is = rw (rules-are, states-are)
-
-  pub rounds-are : rounds (rulesIn rows (size .rules)) (from 0 (size .states)) ≡ roundsOf (held .automaton)
-  unfolding roundsOf
-  rounds-are = rw (rules-are, states-are)
-
+-- The targets of rules that name the states below n alone.
 pub target-below : (rows : List ℕ) (k n : ℕ) → Simulable (rulesIn rows k) (from 0 n) → (i : ℕ) → i < k → ruleAt rows i .target < n
-target-below rows k n s i h = rw zero-add at (member-from n 0 _ (s .targets _ (rule-in rows k i h)) .1)
-
--- A refused table.
+target-below rows k n s i h = member-below n _ (s .targets _ (rule-in rows k i h))
 
 -- The relation query.
 
@@ -174,15 +96,15 @@ module _ (b out : List ℕ) (A : Automaton) (w : WellFormed A) (e : judge b ≡ 
   unfolding relationQuery _>>=_ _>>_
   query-found h = rw (e, room-enough (relationBytes A) out (rw (length-bytes A w) h) .0)
 
-  pub query-written : (words after : List ℕ) (n count pairs : ℕ) → n ≡ A .states → 32 * n ≤ length out
+  pub query-written : (words after : List ℕ) (count pairs : ℕ) → 32 * A .states ≤ length out
       → relationIn words ≡ simulationOf A → count ≡ roundsOf A
-      → after ≡ over out 0 (bytesOf words (32 * n)) → pairs ≡ onesOf words (4 * n)
+      → after ≡ over out 0 (bytesOf words (32 * A .states)) → pairs ≡ onesOf words (4 * A .states)
       → (relatedOf (answer.Pairs count pairs) ≡ relationQuery b out) × (after ≡ relationAfter (judge b) out)
   unfolding relatedOf relationAfter
-  query-written words after n count pairs s h f g o p =
-      let enough = room-enough (relationBytes A) out (rw (length-bytes A w, ← s) h) in (
-        rw (query-found (omega arith), g, p, s, pairs-are A w words f),
-        rw (e, enough .1, o, s, bytes-are A w words f),
+  query-written words after count pairs h f g o p =
+      let enough = room-enough (relationBytes A) out (rw (length-bytes A w) h) in (
+        rw (query-found h, g, p, pairs-are A w words f),
+        rw (e, enough .1, o, bytes-are A w words f),
       )
 
 -- The pair query.
@@ -215,50 +137,39 @@ module _ (b : List ℕ) (q r : ℕ) (A : Automaton) (e : judge b ≡ found A) wh
     unfolding pairQuery _>>=_ _>>_ check
     pair-found = rw (e, inside)
 
-    -- Were every rule of q matched, the pair would be in the relation.
-    unmatched-survives : related (simulationOf A) q r ≡ false → survives (A .rules) (simulationOf A) (q, r) ≡ false
-    unfolding simulationOf
-    unmatched-survives h = go (survives (A .rules) (simulationOf A) (q, r)) refl
-      where
-        go : (t : Bool) → survives (A .rules) (simulationOf A) (q, r) ≡ t → t ≡ false
-        go true f =
-            sym
-            (survives-related (A .rules) (from 0 (A .states)) q r (from-member (A .states) 0 q (omega arith) (omega arith))
-            (from-member (A .states) 0 r (omega arith) (omega arith)) f)
-            ∙ h
-        go false f = refl
+    module _ (rows : List ℕ) (k : ℕ) (is : rulesIn rows k ≡ A .rules) where
+      -- Were every rule of q matched, the pair would be in the relation.
+      all-answered : ((j : ℕ) → j < k → answered (rulesIn rows k) (simulationOf A) q r (ruleAt rows j) ≡ true)
+          → related (simulationOf A) q r ≡ true
+      unfolding survives simulationOf
+      all-answered each =
+          let survive : survives (rulesIn rows k) (simulationOf A) (q, r) ≡ true =
+          all-in _ (rulesIn rows k) (rules-each _ rows k each) in
+          survives-related (A .rules) (from 0 (A .states)) q r (below-member _ q hq) (below-member _ r hr)
+          (ap (λ (rules : List Rule). survives rules (simulationOf A) (q, r)) (sym is) ∙ survive)
 
-    first-unmatched : related (simulationOf A) q r ≡ false
-        → Unmatched A q r (firstUnmatched (A .rules) (simulationOf A) q r)
-    unfolding survives firstUnmatched
-    first-unmatched h =
-        let f = first-fails (answered (A .rules) (simulationOf A) q r) (A .rules) (unmatched-survives h) in
-        let u = f .element in
-        let s = or-false-out (not (eqb (u .target) q)) (matched (A .rules) (simulationOf A) r u) (f .fails) in
-        record {
-          rule = u;
-          behind = f .behind;
-          number = f .place;
-          target = eqb-true (u .target) q (not-false _ (s .0));
-          unmatched = s .1;
-        }
+      unmatched-rule : (i : ℕ) → related (simulationOf A) q r ≡ false → FirstUnmatched rows k (simulationOf A) q r i → Unmatched A q r i
+      unmatched-rule i out first = elim (decLt i k) [
+        | yes l ↦
+            let s = or-false-out (not (eqb (ruleAt rows i .target) q)) _ (first .fails l) in
+            record {
+              rule = ruleAt rows i;
+              behind = drop (i + 1) (rulesIn rows k);
+              number = rw (← is) (rules-at rows k i l);
+              target = eqb-true (ruleAt rows i .target) q (not-false _ (s .0));
+              unmatched = ap (λ (rules : List Rule). matched rules (simulationOf A) r (ruleAt rows i)) (sym is) ∙ s .1;
+            }
+        | no l ↦
+            let last : i ≡ k = omega (arith, first .most) in
+            absurd (false≢true (sym out ∙ all-answered (rw last at (first .before))))
+      ]
 
-    pub compares-by : (a : Compared) → comparisonOf a ≡ found (comparedBy (A .rules) (simulationOf A) q r) → Compares b q r a
-    unfolding isYes mapRead comparedBy
-    compares-by a f = go (related (simulationOf A) q r) refl f
-      where
-        number : ℕ
-        number = firstUnmatched (A .rules) (simulationOf A) q r
-
-        go : (t : Bool) → related (simulationOf A) q r ≡ t → comparisonOf a ≡ found (cond t yes (rule number)) → Compares b q r a
-        go true h f = record {
-          verdict = rw (pair-found, h, f);
-          unmatched = λ B g i k. absurd (let z : _≡_ {A = ℕ} 0 1 = cc in omega arith);
-        }
-        go false h f = record {
-          verdict = rw (pair-found, h, f);
-          unmatched = λ B g i k.
-              let same : A ≡ B = cc in
-              let at : number ≡ i = cc in
-              rw (← same, ← at) (first-unmatched h);
-        }
+      pub compares-by : (a : Compared) → ComparedBy rows k (simulationOf A) q r a → Compares b q r a
+      unfolding isYes mapRead
+      compares-by a c = record {
+        verdict = c .verdict ∙ sym pair-found;
+        unmatched = λ B g i f.
+            let same : A ≡ B = cc in
+            let out : false ≡ related (simulationOf A) q r = cc (rw f at (c .verdict)) in
+            rw (← same) (unmatched-rule i (sym out) (c .first i f));
+      }

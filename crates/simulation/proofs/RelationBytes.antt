@@ -2,11 +2,11 @@
 use Prim.Native.Nat.{ℕ, zero, suc, _+_, _-_, _*_, _/_, _%_, _^_, _≤_, _<_}
 use mathlib.Core.Path.{_≡_, refl, sym, ap, ap₂, _∙_}
 use mathlib.Core.List.{List, [], _∷_, _++_, map, map-append}
-use mathlib.Core.Bool.{Bool, true, false, cond, true≢false, false≢true}
+use mathlib.Core.Bool.{Bool, true, false, cond}
 use native.Mathlib.Nat.{add-zero, add-suc, suc-add, zero-add, add-assoc}
 use native.Mathlib.Numerals.{add-one, add-two, add-three}
 use native.Mathlib.Omega.{arith}
-use lib.ListN.{length, getD, set, replicate, length-append, length-map, List·getD-append}
+use lib.ListN.{length, getD, set, length-append, length-map, List·getD-append}
 use lib.Seq.{getD-append-add, sets-eq}
 use lib.Dec.{eqb}
 use lib.Pow.{mod-pow-add, shr-shr, shr-lt}
@@ -14,21 +14,16 @@ use lib.Count.{ones, ones-step}
 use borrow.Author.Tests.{eq-eqb, ne-eqb, eqb-true, eqb-false}
 use Rattle.lists.specs.Lists.{from, keep}
 use Rattle.lists.specs.Over.{over}
-use Rattle.lists.proofs.Ranges.{from-low, from-rising, from-step, length-from, from-append, keep-none}
+use Rattle.lists.proofs.Ranges.{from-step, length-from, from-append, keep-none}
 use Rattle.lists.proofs.Overwriting.{over-then, kept-few}
-use Rattle.lists.proofs.Keeping.{keep-append}
-use Rattle.sets.specs.Set.{emptySet, withState, withAll, setOf, statesIn}
-use Rattle.sets.proofs.StateSets.{bit, bit-suc, states-of-set}
+use Rattle.lists.proofs.Keeping.{keep-append, keep-map}
+use Rattle.sets.proofs.StateSets.{bit, bit-suc}
 use Rattle.refinement.specs.Simulation.{Relation, related}
-use Rattle.refinement.specs.Words.{relationIn}
+use Rattle.refinement.specs.Inner.{relationIn}
 use Rattle.refinement.proofs.Pairs.{pairsIn}
 use Rattle.refinement.proofs.RelationRows.{pair-bit}
 use Rattle.simulation.specs.Query.{bitsFrom, rowBytes, relationRows}
 use Rattle.simulation.specs.Inner.{byteOf, bytesOf, onesIn, onesOf}
-
-pub all-states-in : (n : ℕ) → n ≤ 256 → statesIn n (setOf (from 0 n)) ≡ from 0 n
-unfolding statesIn
-all-states-in n h = states-of-set (from 0 n) n h (from-low 0 n n (omega arith)) (from-rising 0 n)
 
 -- The lowest bits of a number.
 
@@ -81,25 +76,21 @@ length-keep-append : (test : ℕ → Bool) (i a b : ℕ)
     → length (keep test (from i (a + b))) ≡ length (keep test (from i a)) + length (keep test (from (i + a) b))
 length-keep-append test i a b = rw (from-append, keep-append, length-append)
 
-kept-shifted : (f g : ℕ → Bool) (a b n : ℕ) → ((k : ℕ) → k < n → f (a + k) ≡ g (b + k))
-    → length (keep f (from a n)) ≡ length (keep g (from b n))
-unfolding keep from
-kept-shifted f g a b zero same = refl
-kept-shifted f g a b (suc n) same =
-    go (f a) (g b) (simp add-zero at (same 0 (omega arith)))
-    (kept-shifted f g (suc a) (suc b) n (λ k h. ap f (omega arith) ∙ same (suc k) (omega arith) ∙ ap g (omega arith)))
-  where
-    ps : List ℕ
-    ps = keep f (from (suc a) n)
+map-shifted : {A : Type 0} (f g : ℕ → A) (a b n : ℕ) → ((j : ℕ) → j < n → f (a + j) ≡ g (b + j)) → map f (from a n) ≡ map g (from b n)
+unfolding from
+map-shifted f g a b zero h = refl
+map-shifted f g a b (suc n) h =
+    ap₂ _∷_ (simp add-zero at (h 0 (omega arith)))
+    (map-shifted f g (suc a) (suc b) n (λ j l. rw (suc-add, suc-add, ← add-suc, ← add-suc) (h (suc j) (omega arith))))
 
-    qs : List ℕ
-    qs = keep g (from (suc b) n)
+count-kept : (test : ℕ → Bool) (xs : List ℕ) → length (keep test xs) ≡ length (keep (λ (t : Bool). t) (map test xs))
+count-kept test xs = rw (keep-map, length-map)
 
-    go : (s t : Bool) → s ≡ t → length ps ≡ length qs → length (cond s (a ∷ ps) ps) ≡ length (cond t (b ∷ qs) qs)
-    go true true e later = ap suc later
-    go true false e later = absurd (true≢false e)
-    go false true e later = absurd (false≢true e)
-    go false false e later = later
+map-at : (f : ℕ → ℕ) (n a j : ℕ) → j < n → getD (map f (from a n)) j 0 ≡ f (a + j)
+unfolding from
+map-at f zero a j h = absurd (omega arith)
+map-at f (suc n) a zero h = rw add-zero
+map-at f (suc n) a (suc j) h = rw (add-suc, ← suc-add) (map-at f n (suc a) j (omega arith))
 
 pairs-append : (f : ℕ → ℕ → Bool) (ps qs rs : List ℕ) → pairsIn f (ps ++ qs) rs ≡ pairsIn f ps rs + pairsIn f qs rs
 unfolding pairsIn
@@ -127,20 +118,15 @@ module _ (words : List ℕ) where
       (λ k b. bit-shifted (getD words (4 * q + i / 8) 0) (8 * (i % 8)) k
       ∙ word-bit q (i / 8) (8 * (i % 8) + k) h (omega arith) (omega arith) ∙ ap (related R q) (omega arith)))
 
-  row-bytes : (n q i : ℕ) → q < 256 → i + n ≤ 32 → map (byteOf words) (from (32 * q + i) n) ≡ rowBytes R q i n
-  unfolding rowBytes from
-  row-bytes zero q i h l = refl
-  row-bytes (suc n) q i h l =
-      rw (byte-is q i h (omega arith), ← add-suc (32 * q) i, row-bytes n q (suc i) h (omega arith))
-
   rows-bytes : (n q : ℕ) → q + n ≤ 256 → map (byteOf words) (from (32 * q) (32 * n)) ≡ relationRows R (from q n)
-  unfolding relationRows from
+  unfolding relationRows rowBytes from
   rows-bytes zero q h = refl
   rows-bytes (suc n) q h =
       let more : 32 * suc n ≡ 32 + 32 * n = omega arith in
       let next : 32 * q + 32 ≡ 32 * suc q = omega arith in
-      rw (more, from-append, map-append, next, ← row-bytes 32 q 0 (omega arith) (omega arith), add-zero)
-      (ap (_++_ (map (byteOf words) (from (32 * q) 32))) (rows-bytes n (suc q) (omega arith)))
+      rw (more, from-append, map-append, next) (ap₂ _++_
+      (map-shifted (byteOf words) (λ (i : ℕ). bitsFrom R q (8 * i) 8) (32 * q) 0 32 (λ i l. rw zero-add (byte-is q i (omega arith) l)))
+      (rows-bytes n (suc q) (omega arith)))
 
   pub bytes-rows : (n : ℕ) → n ≤ 256 → bytesOf words (32 * n) ≡ relationRows R (from 0 n)
   unfolding bytesOf
@@ -149,8 +135,11 @@ module _ (words : List ℕ) where
   ones-word : (q j : ℕ) → q < 256 → j < 4 → onesIn (getD words (4 * q + j) 0) ≡ length (keep (related R q) (from (64 * j) 64))
   unfolding onesIn bit
   ones-word q j h l =
-      kept-shifted (bit (getD words (4 * q + j) 0)) (related R q) 0 (64 * j) 64
-      (λ k b. ap (bit (getD words (4 * q + j) 0)) (zero-add k) ∙ word-bit q j k h l b)
+      let w = getD words (4 * q + j) 0 in
+      count-kept (bit w) (from 0 64)
+      ∙ ap (λ (ts : List Bool). length (keep (λ (t : Bool). t) ts))
+      (map-shifted (bit w) (related R q) 0 (64 * j) 64 (λ k b. ap (bit w) (zero-add k) ∙ word-bit q j k h l b))
+      ∙ sym (count-kept (related R q) (from (64 * j) 64))
 
   ones-row : (q : ℕ) → q < 256 → onesOf words (4 * suc q) ≡ onesOf words (4 * q) + length (keep (related R q) (from 0 256))
   unfolding onesOf
@@ -175,20 +164,20 @@ module _ (words : List ℕ) where
       ones-row n (omega arith)
       ∙ rw (ones-rows n (omega arith), ← add-one n, from-step, pairs-append, zero-add, add-zero)
 
-  narrowed : (qs : List ℕ) (n : ℕ) → n ≤ 256 → ((q r : ℕ) → n ≤ r → related R q r ≡ false)
+  columns-below : (qs : List ℕ) (n : ℕ) → n ≤ 256 → ((q r : ℕ) → n ≤ r → related R q r ≡ false)
       → pairsIn (related R) qs (from 0 256) ≡ pairsIn (related R) qs (from 0 n)
   unfolding pairsIn
-  narrowed [] n h low = refl
-  narrowed (q ∷ qs) n h low =
+  columns-below [] n h low = refl
+  columns-below (q ∷ qs) n h low =
       let all : n + (256 - n) ≡ 256 = omega arith in
       let few : length (keep (related R q) (from 0 256)) ≡ length (keep (related R q) (from 0 n)) + 0 =
       rw (all, zero-add, keep-none (related R q) n (256 - n) (λ r l b. low q r l))
       at (length-keep-append (related R q) 0 n (256 - n)) in
-      rw (few, add-zero, narrowed qs n h low)
+      rw (few, add-zero, columns-below qs n h low)
 
   pub ones-pairs : (n : ℕ) → n ≤ 256 → ((q r : ℕ) → n ≤ r → related R q r ≡ false)
       → onesOf words (4 * n) ≡ pairsIn (related R) (from 0 n) (from 0 n)
-  ones-pairs n h low = ones-rows n h ∙ narrowed (from 0 n) n h low
+  ones-pairs n h low = ones-rows n h ∙ columns-below (from 0 n) n h low
 
 -- The rows of any relation.
 
@@ -198,31 +187,24 @@ lowest true x = (eq-eqb ((1 + 2 * x) / 2 ^ 0 % 2) 1 (omega arith), omega arith)
 lowest false x = (ne-eqb ((0 + 2 * x) / 2 ^ 0 % 2) 1 (omega arith), omega arith)
 
 module _ (R : Relation) where
-  length-row : (n q i : ℕ) → length (rowBytes R q i n) ≡ n
+  length-row : (q : ℕ) → length (rowBytes R q) ≡ 32
   unfolding rowBytes
-  length-row zero q i = refl
-  length-row (suc n) q i = ap suc (length-row n q (suc i))
+  length-row q = rw (length-map, length-from)
 
   pub length-rows : (qs : List ℕ) → length (relationRows R qs) ≡ 32 * length qs
   unfolding relationRows
   length-rows [] = refl
-  length-rows (q ∷ qs) = rw (length-append, length-row, length-rows qs) (omega arith)
-
-  row-at : (n q i j : ℕ) → j < n → getD (rowBytes R q i n) j 0 ≡ bitsFrom R q (8 * (i + j)) 8
-  unfolding rowBytes
-  row-at zero q i j h = absurd (omega arith)
-  row-at (suc n) q i zero h = rw add-zero
-  row-at (suc n) q i (suc j) h = rw (add-suc, ← suc-add) (row-at n q (suc i) j (omega arith))
+  length-rows (q ∷ qs) = rw (length-append, length-row q, length-rows qs) (omega arith)
 
   rows-at : (n p q j : ℕ) → q < n → j < 32 → getD (relationRows R (from p n)) (32 * q + j) 0 ≡ bitsFrom R (p + q) (8 * j) 8
   unfolding relationRows from
   rows-at zero p q j h l = absurd (omega arith)
   rows-at (suc n) p zero j h l =
       rw (zero-add, add-zero)
-      (List·getD-append (rowBytes R p 0 32) (relationRows R (from (suc p) n)) 0 j (omega (arith, length-row 32 p 0))
-      ∙ row-at 32 p 0 j l ∙ ap (λ (i : ℕ). bitsFrom R p (8 * i) 8) (zero-add j))
+      (List·getD-append (rowBytes R p) (relationRows R (from (suc p) n)) 0 j (omega (arith, length-row p))
+      ∙ unfold rowBytes in map-at (λ (i : ℕ). bitsFrom R p (8 * i) 8) 32 0 j l ∙ rw zero-add)
   rows-at (suc n) p (suc q) j h l =
-      let place : 32 * suc q + j ≡ length (rowBytes R p 0 32) + (32 * q + j) = omega (arith, length-row 32 p 0) in
+      let place : 32 * suc q + j ≡ length (rowBytes R p) + (32 * q + j) = omega (arith, length-row p) in
       rw (place, getD-append-add, add-suc, ← suc-add) (rows-at n (suc p) q j (omega arith) l)
 
   -- A bit of the rows is a pair.
@@ -242,18 +224,7 @@ module _ (R : Relation) where
       rw (rows-at n 0 q (r / 8) h (omega arith), zero-add)
       (bits-bit 8 q (8 * (r / 8)) (r % 8) (omega arith) ∙ ap (related R q) (omega arith))
 
--- A set that grows by the next state.
-
-with-append : (ws ps qs : List ℕ) → withAll ws (ps ++ qs) ≡ withAll (withAll ws ps) qs
-unfolding withAll
-with-append ws [] qs = refl
-with-append ws (p ∷ ps) qs = with-append (withState ws p) ps qs
-
-pub set-next : (n : ℕ) → setOf (from 0 (n + 1)) ≡ withState (setOf (from 0 n)) n
-unfolding setOf withAll
-set-next n = rw (from-step, zero-add) (with-append emptySet (from 0 n) (n ∷ []))
-
--- A turn of the loop that writes the bytes, and of the one that counts.
+-- A turn of the loop that writes the bytes.
 
 over-one : (out : List ℕ) (at v : ℕ) → at + 1 ≤ length out → set out at v ≡ over out at (v ∷ [])
 unfolding over
@@ -263,65 +234,12 @@ length-bytes : (ws : List ℕ) (i : ℕ) → length (bytesOf ws i) ≡ i
 unfolding bytesOf
 length-bytes ws i = length-map (from 0 i) (byteOf ws) ∙ length-from 0 i
 
--- A word's byte.
-word-byte : (w j : ℕ) → j < 8 → w / 2 ^ (8 * j) % 256 ≡ byteOf (w ∷ []) j
-unfolding byteOf
-word-byte w j h =
-    let first : j / 8 ≡ 0 = omega arith in
-    let same : j % 8 ≡ j = omega arith in
-    rw (first, same)
-
-pub word-next : (out : List ℕ) (at w : ℕ) (now : List ℕ) (j : ℕ) → now ≡ over out at (bytesOf (w ∷ []) j) → length now ≡ length out
-    → j < 8 → at + 8 ≤ length out → set now (at + j) (w / 2 ^ (8 * j) % 256) ≡ over out at (bytesOf (w ∷ []) (j + 1))
-word-next out at w now j e same h room =
-    let place : at + j ≡ at + length (bytesOf (w ∷ []) j) = ap (λ (n : ℕ). at + n) (sym (length-bytes (w ∷ []) j)) in
-    rw (word-byte w j h)
-    (over-then out at (bytesOf (w ∷ []) j) now (at + j) (byteOf (w ∷ []) j ∷ []) _ e
-    (over-one now (at + j) (byteOf (w ∷ []) j) (omega arith)) place (omega arith)
-    ∙ ap (over out at) (one-more j))
+pub byte-next : (out ws now : List ℕ) (i : ℕ) → now ≡ over out 0 (bytesOf ws i) → length now ≡ length out → i < length out
+    → set now i (byteOf ws i) ≡ over out 0 (bytesOf ws (i + 1))
+byte-next out ws now i e long h =
+    over-then out 0 (bytesOf ws i) now i (byteOf ws i ∷ []) _ e (over-one now i (byteOf ws i) (omega arith))
+    (omega (arith, length-bytes ws i)) (omega arith)
+    ∙ ap (over out 0) one-more
   where
-    one-more : (j : ℕ) → bytesOf (w ∷ []) j ++ (byteOf (w ∷ []) j ∷ []) ≡ bytesOf (w ∷ []) (j + 1)
-    one-more j = unfold bytesOf in rw (from-step, map-append, zero-add)
-
--- The bytes of one word more.
-shifted : (f g : ℕ → ℕ) (a b n : ℕ) → ((j : ℕ) → j < n → f (a + j) ≡ g (b + j)) → map f (from a n) ≡ map g (from b n)
-unfolding from
-shifted f g a b zero h = refl
-shifted f g a b (suc n) h =
-    ap₂ (λ (x : ℕ) (xs : List ℕ). x ∷ xs) (simp add-zero at (h 0 (omega arith)))
-    (shifted f g (suc a) (suc b) n (λ j l. later j l))
-  where
-    later : (j : ℕ) → j < n → f (suc a + j) ≡ g (suc b + j)
-    later j l =
-        let e : suc a + j ≡ a + suc j = omega arith in
-        let d : suc b + j ≡ b + suc j = omega arith in
-        rw (e, d) (h (suc j) (omega arith))
-
-bytes-word : (ws : List ℕ) (i : ℕ) → bytesOf ws (8 * i) ++ bytesOf (getD ws i 0 ∷ []) 8 ≡ bytesOf ws (8 * (i + 1))
-unfolding bytesOf byteOf
-bytes-word ws i =
-    let more : 8 * (i + 1) ≡ 8 * i + 8 = omega arith in
-    rw (more, from-append, map-append)
-    (ap (λ (l : List ℕ). map (byteOf ws) (from 0 (8 * i)) ++ l)
-    (sym (shifted (byteOf ws) (byteOf (getD ws i 0 ∷ [])) (0 + 8 * i) 0 8 (λ j h. same j h))))
-  where
-    same : (j : ℕ) → j < 8 → byteOf ws (0 + 8 * i + j) ≡ byteOf (getD ws i 0 ∷ []) (0 + j)
-    same j h =
-        let word : (0 + 8 * i + j) / 8 ≡ i = omega arith in
-        let byte : (0 + 8 * i + j) % 8 ≡ (0 + j) % 8 = omega arith in
-        let first : (0 + j) / 8 ≡ 0 = omega arith in
-        rw (word, byte, first)
-
-pub words-next : (out ws now : List ℕ) (i : ℕ) (next : List ℕ) → now ≡ over out 0 (bytesOf ws (8 * i))
-    → next ≡ over now (8 * i) (bytesOf (getD ws i 0 ∷ []) 8) → 8 * i + 8 ≤ length out → next ≡ over out 0 (bytesOf ws (8 * (i + 1)))
-words-next out ws now i next e f room =
-    let place : 8 * i ≡ 0 + length (bytesOf ws (8 * i)) = omega (arith, length-bytes ws (8 * i)) in
-    over-then out 0 (bytesOf ws (8 * i)) now (8 * i) (bytesOf (getD ws i 0 ∷ []) 8) next e f place
-    (omega (arith, length-bytes (getD ws i 0 ∷ []) 8))
-    ∙ ap (over out 0) (bytes-word ws i)
-
--- Words that are 0.
-pub zero-words : (n i : ℕ) → getD (replicate {A = ℕ} n 0) i 0 ≡ 0
-zero-words zero i = refl
-zero-words (suc n) zero = refl
-zero-words (suc n) (suc i) = zero-words n i
+    one-more : bytesOf ws i ++ (byteOf ws i ∷ []) ≡ bytesOf ws (i + 1)
+    one-more = unfold bytesOf in rw (from-step, map-append, zero-add)

@@ -6,6 +6,7 @@ use mathlib.Core.List.{List, List·Memᴰ}
 use mathlib.Core.Bool.{true, true≢false}
 use lib.ListN.{length, getD}
 use Rattle.lists.specs.Lists.{Distinct, from}
+use Rattle.lists.proofs.Ranges.{length-from}
 use Rattle.records.specs.Read.{found, refused}
 use Rattle.records.proofs.Causes.{cause-of}
 use Rattle.automaton.specs.Automaton.{Automaton, WellFormed}
@@ -21,6 +22,7 @@ use Rattle.simulation.proofs.Acceptance as accepting
 use Rattle.refinement.specs.Simulation.{Matched, Simulates, related, relationAt}
 use Rattle.simulation.proofs.Language as language
 use Rattle.refinement.proofs.Refinement as refinement
+use Rattle.refinement.proofs.Maximality as maximality
 use Rattle.simulation.specs.Check.{acceptance, Checks}
 use Rattle.simulation.specs.declared.checking.Checked.{Checked}
 use Rattle.simulation.specs.declared.checking.Counts.{Counts}
@@ -49,14 +51,20 @@ module _ (A : Automaton) (w : WellFormed A) where
 
   pub simulation-largest : (D : ℕ → ℕ → Type 0) → Simulates (A .rules) (A .rules) D
       → ((q r : ℕ) → D q r → (q < A .states) × (r < A .states)) → (q r : ℕ) → D q r → related (simulationOf A) q r ≡ true
-  simulation-largest = preorder.preorder-largest A w
+  unfolding simulationOf
+  simulation-largest D simulates inside =
+      maximality.relation-largest (A .rules) (from 0 (A .states)) D simulates
+      (λ q r d. (preorder.below-member _ q (inside q r d .0), preorder.below-member _ r (inside q r d .1)))
 
   pub simulation-reflexive : (q : ℕ) → q < A .states → related (simulationOf A) q q ≡ true
-  simulation-reflexive = preorder.preorder-reflexive A w
+  unfolding simulationOf
+  simulation-reflexive q h =
+      maximality.relation-reflexive (A .rules) (from 0 (A .states)) (preorder.states-closed A w) q (preorder.below-member _ q h)
 
   pub simulation-transitive : (q r s : ℕ) → related (simulationOf A) q r ≡ true → related (simulationOf A) r s ≡ true
       → related (simulationOf A) q s ≡ true
-  simulation-transitive = preorder.preorder-transitive A w
+  unfolding simulationOf
+  simulation-transitive = maximality.relation-transitive (A .rules) (from 0 (A .states))
 
   -- The rounds are the least j with R(j+1) = Rj, and at most n(n − 1).
   pub rounds-settle : relationAt (A .rules) (from 0 (A .states)) (suc (roundsOf A)) ≡ relationAt (A .rules) (from 0 (A .states)) (roundsOf A)
@@ -69,7 +77,8 @@ module _ (A : Automaton) (w : WellFormed A) where
   rounds-least = refinement.rounds-least (A .rules) (from 0 (A .states))
 
   pub rounds-bound : roundsOf A ≤ A .states * (A .states - 1)
-  rounds-bound = preorder.rounds-few A w
+  unfolding roundsOf
+  rounds-bound = rw (length-from 0 (A .states)) at (maximality.rounds-below (A .rules) (from 0 (A .states)) (preorder.states-closed A w))
 
   -- Where q ≤ r, a tree that reaches q reaches r.
   pub simulation-reaches : (t : Tree) (q r : ℕ) → related (simulationOf A) q r ≡ true → Reaches (A .rules) t q → Reaches (A .rules) t r

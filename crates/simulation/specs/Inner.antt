@@ -1,15 +1,18 @@
 -- What the contracts of inner functions and of those exported for the crates above cite; no call for everybody cites any of it. Places that an
 -- array does not have, where `getD` would give its default, are ruled out by the bounds in the contracts that cite these.
-use Prim.Native.Nat.{ℕ, zero, suc, _+_, _*_, _/_, _%_, _^_}
-use mathlib.Core.List.{List, [], _∷_, map}
-use mathlib.Core.Bool.{Bool, not, cond, _||_}
+use Prim.Native.Nat.{ℕ, zero, suc, _+_, _*_, _/_, _%_, _^_, _≤_, _<_}
+use mathlib.Core.Path.{_≡_}
+use mathlib.Core.List.{List, map}
+use mathlib.Core.Bool.{true, false}
 use lib.ListN.{length, getD}
 use lib.Dec.{eqb}
 use Rattle.lists.specs.Lists.{from, keep}
-use Rattle.sets.specs.Set.{words}
-use Rattle.automaton.specs.Automaton.{Rule}
-use Rattle.refinement.specs.Simulation.{Relation, related, matched}
-use Rattle.simulation.specs.Query.{Comparison, yes, rule}
+use Rattle.records.specs.Read.{found, mapRead}
+use Rattle.automaton.specs.Row.{ruleAt, rulesIn}
+use Rattle.refinement.specs.Simulation.{Relation, related}
+use Rattle.refinement.specs.Inner.{answered}
+use Rattle.simulation.specs.Query.{rule, comparisonOf, isYes}
+use Rattle.simulation.specs.declared.query.Compared.{Compared}
 
 -- The first n bytes of 64-bit words, each word's lowest byte first.
 unfoldable pub byteOf : List ℕ → ℕ → ℕ
@@ -26,15 +29,13 @@ unfoldable pub onesOf : List ℕ → ℕ → ℕ
 onesOf words zero = 0
 onesOf words (suc n) = onesOf words n + onesIn (getD words n 0)
 
--- How many elements stand before the first that fails a test.
-unfoldable pub firstFailing : {A : Type 0} → (A → Bool) → List A → ℕ
-firstFailing test [] = zero
-firstFailing test (x ∷ xs) = cond (test x) (suc (firstFailing test xs)) zero
+-- Of k rules in rows, number i is the first rule of q that no rule of r matches; or i is k, and each has a match.
+pub record FirstUnmatched (rows : List ℕ) (k : ℕ) (R : Relation) (q r i : ℕ) : Type 0 where
+  pub most : i ≤ k
+  pub before : (j : ℕ) → j < i → answered (rulesIn rows k) R q r (ruleAt rows j) ≡ true
+  pub fails : i < k → answered (rulesIn rows k) R q r (ruleAt rows i) ≡ false
 
--- The number of the first rule of q that no rule of r matches; the number of rules where each has a match.
-unfoldable pub firstUnmatched : List Rule → Relation → ℕ → ℕ → ℕ
-firstUnmatched rules R q r = firstFailing (λ (u : Rule). not (eqb (u .target) q) || matched rules R r u) rules
-
--- Yes if q is related to r, and otherwise that number.
-unfoldable pub comparedBy : List Rule → Relation → ℕ → ℕ → Comparison
-comparedBy rules R q r = cond (related R q r) yes (rule (firstUnmatched rules R q r))
+-- An answer on q and r: yes if q is related to r, and otherwise that number.
+pub record ComparedBy (rows : List ℕ) (k : ℕ) (R : Relation) (q r : ℕ) (answer : Compared) : Type 0 where
+  pub verdict : mapRead isYes (comparisonOf answer) ≡ found (related R q r)
+  pub first : (i : ℕ) → comparisonOf answer ≡ found (rule i) → FirstUnmatched rows k R q r i

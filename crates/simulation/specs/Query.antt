@@ -2,7 +2,7 @@
 use Prim.Native.Nat.{ℕ, zero, suc, _+_, _*_}
 use mathlib.Core.Path.{_≡_}
 use mathlib.Core.Bool.{Bool, true, false, cond, _&&_}
-use mathlib.Core.List.{List, [], _∷_, _++_}
+use mathlib.Core.List.{List, [], _∷_, _++_, map}
 use lib.ListN.{length, drop}
 use lib.Dec.{ltb}
 use Rattle.lists.specs.Lists.{from}
@@ -29,14 +29,13 @@ unfoldable pub bitsFrom : Relation → ℕ → ℕ → ℕ → ℕ
 bitsFrom R q r zero = 0
 bitsFrom R q r (suc n) = cond (related R q r) 1 0 + 2 * bitsFrom R q (suc r) n
 
--- Bit r mod 8 of byte r div 8 in row q is 1 if q ≤ r.
-unfoldable pub rowBytes : Relation → ℕ → ℕ → ℕ → List ℕ
-rowBytes R q i zero = []
-rowBytes R q i (suc n) = bitsFrom R q (8 * i) 8 ∷ rowBytes R q (suc i) n
+-- Row q, 32 bytes: bit r mod 8 of byte r div 8 is 1 if q ≤ r.
+unfoldable pub rowBytes : Relation → ℕ → List ℕ
+rowBytes R q = map (λ (i : ℕ). bitsFrom R q (8 * i) 8) (from 0 32)
 
 unfoldable pub relationRows : Relation → List ℕ → List ℕ
 relationRows R [] = []
-relationRows R (q ∷ qs) = rowBytes R q 0 32 ++ relationRows R qs
+relationRows R (q ∷ qs) = rowBytes R q ++ relationRows R qs
 
 unfoldable pub relationBytes : Automaton → List ℕ
 relationBytes A = relationRows (simulationOf A) (from 0 (A .states))

@@ -1,21 +1,19 @@
 // The relation query and the pair query.
 ghost use Prim.Native.Nat.{ℕ, _*_, _+_, _≤_, _<_};
 ghost use mathlib.Core.Path.{_≡_};
-ghost use mathlib.Core.List.{[], _∷_};
 ghost use lib.ListN.{length, getD};
+ghost use lib.Dec.{ltb};
 ghost use Rattle.lists.specs.Lists.{from};
 ghost use Rattle.lists.specs.Over.{over};
-ghost use Rattle.sets.specs.Set.{setOf};
-ghost use Rattle.records.specs.Read.{found};
+ghost use Rattle.sets.specs.Inner.{Has};
 ghost use Rattle.automaton.specs.Table.{judge};
 ghost use Rattle.automaton.specs.Automaton.{Rule};
 ghost use Rattle.automaton.specs.Row.{rulesIn, Rows};
 ghost use Rattle.indexing.specs.Index.{keyed};
 ghost use Rattle.refinement.specs.Simulation as simulation;
-ghost use Rattle.refinement.specs.Words.{relationIn};
-ghost use Rattle.refinement.specs.Inner.{Answering, Simulable};
-ghost use Rattle.simulation.specs.Query.{relatedOf, relationQuery, relationAfter, comparisonOf, Compares};
-ghost use Rattle.simulation.specs.Inner.{bytesOf, onesIn, onesOf, firstUnmatched, comparedBy};
+ghost use Rattle.refinement.specs.Inner.{relationIn, Answering, Simulable};
+ghost use Rattle.simulation.specs.Query.{relatedOf, relationQuery, relationAfter, Compares};
+ghost use Rattle.simulation.specs.Inner.{bytesOf, onesIn, onesOf, FirstUnmatched, ComparedBy};
 use automaton::Judged;
 use automaton::ROWS;
 use automaton::Size;
@@ -26,7 +24,6 @@ use indexing::Key;
 use indexing::index_rules;
 use indexing::rules_of;
 use records::Refusal;
-use refinement::Relation;
 use refinement::has_match;
 use refinement::has_pair;
 use refinement::simulate;
@@ -48,7 +45,7 @@ pub enum Compared {
 // The set of the states below n.
 fn all_states(n: usize) -> StateSet
     requires { ⌜ n ≤ 256 ⌝ }
-    ensures { λ r. ⌜ r .words ≡ setOf (from 0 n) ⌝ }
+    ensures { λ r. ⌜ Has (r .words) (λ (q : ℕ). ltb q n) ⌝ }
 {
     let mut set = StateSet::empty();
     let mut q: usize = 0;
@@ -59,27 +56,15 @@ fn all_states(n: usize) -> StateSet
     set
 }
 
-// The eight bytes of a word from `at` on, the lowest first.
-fn put_word(out: &mut [u8], at: usize, word: u64)
-    requires { ⌜ at + 8 ≤ length (now out) ⌝ }
-    ensures { λ _. ⌜ now (out .exit) ≡ over (now (out .entry)) at (bytesOf (word ∷ []) 8) ⌝ }
-{
-    let mut j: usize = 0;
-    while j < 8 {
-        out[at + j] = ((word >> (8 * j)) % 256) as u8;
-        j += 1;
-    }
-}
-
-// The rows of n states at the start of `out`, the bytes of their words in order.
+// The rows of n states at the start of `out`: the bytes of their words in order, the lowest of each first.
 fn put_rows(words: &[u64; 1024], n: usize, out: &mut [u8])
     requires { ⌜ n ≤ 256 ⌝ }
     requires { ⌜ 32 * n ≤ length (now out) ⌝ }
     ensures { λ _. ⌜ now (out .exit) ≡ over (now (out .entry)) 0 (bytesOf (now (words .entry)) (32 * n)) ⌝ }
 {
     let mut i: usize = 0;
-    while i < 4 * n {
-        put_word(out, 8 * i, words[i]);
+    while i < 32 * n {
+        out[i] = ((words[i / 8] >> (8 * (i % 8))) % 256) as u8;
         i += 1;
     }
 }
@@ -139,16 +124,12 @@ pub fn relate(table: &[u8], out: &mut [u8]) -> Related
                 return Related::Refused(Refusal::ShortOutput);
             }
             let mut index: [u16; INDEX] = [0; INDEX];
-            let mut relation = Relation {
-                words: [0; 1024],
-                rounds: 0,
-            };
-            let rounds = simulate_all(size, &rows, &mut index, &mut relation.words);
-            relation.rounds = rounds;
-            put_rows(&relation.words, n, out);
+            let mut relation: [u64; 1024] = [0; 1024];
+            let rounds = simulate_all(size, &rows, &mut index, &mut relation);
+            put_rows(&relation, n, out);
             Related::Pairs {
-                rounds: relation.rounds,
-                pairs: count_pairs(&relation.words, n),
+                rounds,
+                pairs: count_pairs(&relation, n),
             }
         }
     }
@@ -159,7 +140,7 @@ fn first_unmatched(words: &[u64; 1024], rows: &[u8], k: usize, q: u8, numbers: &
     requires { ⌜ Rows (now rows) k ⌝ }
     requires { ⌜ ((r : ℕ) × (now numbers ≡ keyed (λ (u : Rule). u .target) (now rows) r 0 k)) ⌝ }
     ensures { λ i. ⌜ ((r : ℕ) → now (numbers .entry) ≡ keyed (λ (u : Rule). u .target) (now (rows .entry)) r 0 k
-        → i ≡ firstUnmatched (rulesIn (now (rows .entry)) k) (relationIn (now (words .entry))) q r) ⌝ }
+        → FirstUnmatched (now (rows .entry)) k (relationIn (now (words .entry))) q r i) ⌝ }
 {
     let mut i: usize = 0;
     while i < k {
@@ -175,21 +156,17 @@ fn first_unmatched(words: &[u64; 1024], rows: &[u8], k: usize, q: u8, numbers: &
 fn compare_states(size: Size, rows: &[u8], q: u8, r: u8) -> Compared
     requires { ⌜ (size .states ≤ 256) × ((q < size .states) × (r < size .states)) ⌝ }
     requires { ⌜ Rows (now rows) (size .rules) × Simulable (rulesIn (now rows) (size .rules)) (from 0 (size .states)) ⌝ }
-    ensures { λ a. ⌜ comparisonOf a ≡ found (comparedBy (rulesIn (now (rows .entry)) (size .rules))
-        (simulation.relation (rulesIn (now (rows .entry)) (size .rules)) (from 0 (size .states))) q r) ⌝ }
+    ensures { λ a. ⌜ ComparedBy (now (rows .entry)) (size .rules)
+        (simulation.relation (rulesIn (now (rows .entry)) (size .rules)) (from 0 (size .states))) q r a ⌝ }
 {
     let mut index: [u16; INDEX] = [0; INDEX];
-    let mut relation = Relation {
-        words: [0; 1024],
-        rounds: 0,
-    };
-    let rounds = simulate_all(size, rows, &mut index, &mut relation.words);
-    relation.rounds = rounds;
-    if has_pair(&relation.words, q, r) {
+    let mut relation: [u64; 1024] = [0; 1024];
+    simulate_all(size, rows, &mut index, &mut relation);
+    if has_pair(&relation, q, r) {
         return Compared::Yes;
     }
     let numbers = rules_of(&index, r as usize);
-    Compared::Rule(first_unmatched(&relation.words, rows, size.rules, q, numbers))
+    Compared::Rule(first_unmatched(&relation, rows, size.rules, q, numbers))
 }
 
 // Whether state q is simulated by state r; if not, the number of the first rule of q that no rule of r matches.

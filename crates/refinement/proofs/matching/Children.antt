@@ -1,4 +1,4 @@
--- Children, pair by pair.
+-- The children of two rules, pair by pair from a place on: for the loop of `paired`.
 use Prim.Native.Nat.{ℕ, suc, _+_, _≤_, _<_}
 use mathlib.Core.Path.{_≡_, refl, ap}
 use mathlib.Core.List.{List, [], _∷_}

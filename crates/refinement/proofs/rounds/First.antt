@@ -1,30 +1,29 @@
--- The first round, where all pairs of some states are there: a state has a match for a rule where it has a rule of the same symbol.
-use Prim.Native.Nat.{ℕ, _<_}
+-- The first round, where all pairs of some states are there: a state has a match for a rule where it has a rule of the same symbol. What the
+-- loop of `simulate` starts with, from what `start`, `first_round` and `copy_rows` leave.
+use Prim.Native.Nat.{ℕ, _<_, _^_}
 use native.Mathlib.Omega.{arith}
 use mathlib.Core.Path.{_≡_, refl, sym, ap, ap₂, _∙_}
 use mathlib.Core.List.{List, [], _∷_, List·Memᴰ, List·Memᴰ·head, List·Memᴰ·tail}
-use mathlib.Core.Bool.{Bool, true, false, not, _&&_, _||_, and-true, and-false, true≢false}
+use mathlib.Core.Bool.{Bool, true, false, not, _&&_, _||_, and-true, and-false}
 use lib.ListN.{length, getD}
 use lib.Dec.{eqb, ltb}
-use borrow.Author.Tests.{eq-eqb, ne-eqb, eqb-true, eqb-false, not-false, ltb-false}
+use borrow.Author.Tests.{eq-eqb, ne-eqb, eqb-true, eqb-false, not-true, not-false, ltb-true, lt-ltb}
 use Rattle.lists.specs.Lists.{from, all}
 use Rattle.lists.proofs.Keeping.{keep-out}
 use Rattle.lists.proofs.Ranges.{member-from}
 use Rattle.lists.proofs.Booleans.{and-true-in, and-true-out, and-false-left, and-false-right}
 use Rattle.lists.proofs.Search.{any-agree, all-agree}
-use Rattle.sets.specs.Set.{member, emptySet, sameSet, statesIn}
+use Rattle.sets.specs.Set.{member, sameSet, statesIn}
 use Rattle.sets.specs.Entries.{entryAt}
 use Rattle.sets.specs.Inner.{Has, Below}
-use Rattle.sets.proofs.StateSets.{same-set-out, Bounded}
+use Rattle.sets.proofs.StateSets.{same-set-out, Bounded, sets-differ}
 use Rattle.sets.proofs.EntrySets.{entry-length}
 use Rattle.automaton.specs.Automaton.{Rule}
-use Rattle.refinement.specs.Simulation.{Relation, related, paired, matchedBy, matched, survives, refine, allPairs}
-use Rattle.refinement.specs.Words.{relationIn}
-use Rattle.refinement.specs.Inner.{Simulable, leads, touches, Quiet, EmptyFrom, Copied}
+use Rattle.refinement.specs.Simulation.{Relation, related, paired, matchedBy, matched, survives, refine, allPairs, relationAt}
+use Rattle.refinement.specs.Inner.{relationIn, Simulable, isTarget, touches, Quiet, RowsBelow, Copied}
 use Rattle.refinement.proofs.Refinement.{member-related, pair-member, refine-related}
-use Rattle.refinement.proofs.RelationRows.{related-in, relation-is, relation-start, relation-next}
-use Rattle.refinement.proofs.rounds.Underway.{rows-related, quiet-refined, changed-loses, Going}
-use Rattle.refinement.proofs.rounds.Losses.{loses, refined-none}
+use Rattle.refinement.proofs.RelationRows.{below-low, related-in, relation-start, relation-next, relation-same}
+use Rattle.refinement.proofs.rounds.Going.{rows-related, quiet-refined, changed-more, Going}
 
 module _ (rules : List Rule) (states : List ℕ) (s : Simulable rules states) where
   paired-all : (qs rs : List ℕ) → length qs ≡ length rs → ((q : ℕ) → List·Memᴰ q qs → List·Memᴰ q states)
@@ -37,8 +36,8 @@ module _ (rules : List Rule) (states : List ℕ) (s : Simulable rules states) wh
       and-true-in (member-related (pair-member (left q (List·Memᴰ·head refl)) (right r (List·Memᴰ·head refl))))
       (paired-all qs rs (omega arith) (λ p m. left p (List·Memᴰ·tail m)) (λ p m. right p (List·Memᴰ·tail m)))
 
-  matched-first : (u : Rule) → List·Memᴰ u rules → (r : ℕ) → matched rules (allPairs states states) r u ≡ leads rules (u .symbol) r
-  unfolding matched matchedBy leads
+  matched-first : (u : Rule) → List·Memᴰ u rules → (r : ℕ) → matched rules (allPairs states states) r u ≡ isTarget rules (u .symbol) r
+  unfolding matched matchedBy isTarget
   matched-first u m r =
       any-agree _ _ rules (λ v n. go v n (eqb (u .symbol) (v .symbol)) refl)
     where
@@ -58,7 +57,7 @@ module _ (rules : List Rule) (states : List ℕ) (s : Simulable rules states) wh
 -- What `start` leaves and the first round makes of it, by the targets that the rules of each symbol have.
 module _ (n : ℕ) (rules : List Rule) (set : List ℕ) (low : Below n set) (s : Simulable rules (statesIn 256 set))
     (symbols : (u : Rule) → List·Memᴰ u rules → u .symbol < 256)
-    (holders : List (List ℕ)) (held : (f : ℕ) → f < 256 → Has (getD holders f []) (leads rules f)) (start first : List ℕ)
+    (holders : List (List ℕ)) (held : (f : ℕ) → f < 256 → Has (getD holders f []) (isTarget rules f)) (start first : List ℕ)
     (started : (q : ℕ) → q < 256 → Has (entryAt start q) (λ (r : ℕ). member set q && member set r))
     (rounded : (q : ℕ) → q < 256 → Has (entryAt first q) (λ (r : ℕ). member (entryAt start q) r
     && all (λ (u : Rule). not (eqb (u .target) q) || member (getD holders (u .symbol) []) r) rules)) where
@@ -76,19 +75,10 @@ module _ (n : ℕ) (rules : List Rule) (set : List ℕ) (low : Below n set) (s :
       ∙ matched-first rules (statesIn 256 set) s u m r))))
       ∙ sym (refine-related rules (relationIn start) q r))
 
-  first-low : EmptyFrom n first
-  unfolding EmptyFrom Below
+  first-low : RowsBelow n first
+  unfolding RowsBelow Below
   first-low q h r l b =
       rounded q h r b ∙ and-false-left _ (started q h r b ∙ and-false-right (member set q) (low r l b))
-
-  -- A state of the set is below n.
-  state-low : (q : ℕ) → q < 256 → member set q ≡ true → ltb q n ≡ true
-  unfolding Below
-  state-low q h is = go (ltb q n) refl
-    where
-      go : (t : Bool) → ltb q n ≡ t → t ≡ true
-      go true e = refl
-      go false e = absurd (true≢false (sym is ∙ low q (ltb-false q n e) h))
 
   state-in : (q : ℕ) → List·Memᴰ q (statesIn 256 set) → (q < 256) × (member set q ≡ true)
   unfolding statesIn
@@ -100,59 +90,49 @@ module _ (n : ℕ) (rules : List Rule) (set : List ℕ) (low : Below n set) (s :
   -- The states whose rows are not the whole set.
   module _ (changed : List ℕ)
       (is : Has changed (λ (q : ℕ). ltb q n && (member set q && not (sameSet (entryAt first q) set))))
-      (four : length set ≡ 4) (long : length first ≡ 1024) where
+      (four : length set ≡ 4) (bounded : Bounded set) (long : length first ≡ 1024)
+      (bounded-rows : (q i : ℕ) → q < n → getD (entryAt first q) i 0 < 2 ^ 64) where
     row-long : (q : ℕ) → q < 256 → length (entryAt first q) ≡ 4
     row-long q h = entry-length first q (omega arith)
 
-    whole-row : (q : ℕ) → q < 256 → member set q ≡ true → member changed q ≡ false → entryAt first q ≡ set
-    whole-row q h m e =
-        same-set-out (entryAt first q) set (row-long q h) four
-        (not-false _ (rw (state-low q h m, m) at (sym (is q h) ∙ e)))
+    -- A row that is not changed has the states that it had, all of the set or none.
+    row-same : (q : ℕ) → q < 256 → member changed q ≡ false → Has (entryAt first q) (member (entryAt start q))
+    row-same q h e = go (member set q) refl
+      where
+        go : (t : Bool) → member set q ≡ t → Has (entryAt first q) (member (entryAt start q))
+        go true m r b =
+            let whole : entryAt first q ≡ set =
+            same-set-out (entryAt first q) set (row-long q h) four
+            (not-false _ (rw (lt-ltb q n (below-low set low q h m), m) at (sym (is q h) ∙ e))) in
+            ap (λ (row : List ℕ). member row r) whole ∙ sym (started q h r b ∙ rw m)
+        go false m r b =
+            let out : member (entryAt start q) r ≡ false = started q h r b ∙ rw m in
+            rounded q h r b ∙ and-false-left _ out ∙ sym out
 
     first-quiet : Quiet rules rules (relationIn first) (touches changed)
     first-quiet =
         quiet-refined rules (relationIn start) (relationIn first) changed first-refined (λ u m q c e.
-        let i = state-in q (s .children u m q c) in
-        rows-related start first q (λ r b.
-        ap (λ (row : List ℕ). member row r) (whole-row q (i .0) (i .1) e) ∙ sym (started q (i .0) r b ∙ rw (i .1))))
+        rows-related start first q (row-same q (state-in q (s .children u m q c) .0) e))
 
-    row-same : ((q : ℕ) → q < 256 → member changed q ≡ false) → (q : ℕ) → q < 256 → (t : Bool) → member set q ≡ t
-        → Has (entryAt first q) (member (entryAt start q))
-    row-same none q h true m r b =
-        ap (λ (row : List ℕ). member row r) (whole-row q h m (none q h)) ∙ sym (started q h r b ∙ rw m)
-    row-same none q h false m r b =
-        let out : member (entryAt start q) r ≡ false = started q h r b ∙ rw m in
-        rounded q h r b ∙ and-false-left _ out ∙ sym out
+    changed-other : refine rules (relationIn start) ≡ relationIn start → (q : ℕ) → q < 256 → member changed q ≡ true → ⊥
+    changed-other fixed q h e =
+        let parts = and-true-out (ltb q n) _ (sym (is q h) ∙ e) in
+        let both = and-true-out (member set q) _ (parts .1) in
+        sets-differ (entryAt first q) set (row-long q h) four (λ i. bounded-rows q i (ltb-true q n (parts .0))) bounded
+        (not-true _ (both .1)) (λ r b.
+        sym (related-in first q r h b) ∙ ap (λ (R : Relation). related R q r) (first-refined ∙ fixed)
+        ∙ related-in start q r h b ∙ started q h r b ∙ rw (both .0))
 
-    unchanged : ((q : ℕ) → q < 256 → member changed q ≡ false) → relationIn first ≡ relationIn start
-    unfolding relationIn
-    unchanged none =
-        relation-is first (λ (p : ℕ × ℕ). member (entryAt start (p .0)) (p .1)) (λ q h. row-same none q h (member set q) refl)
-
-    module _ (few : (q : ℕ) → q < 256 → member changed q ≡ true → Has (entryAt first q) (member set) → ⊥)
-        (four-changed : length changed ≡ 4) (bounded : Bounded changed) where
-      first-lost : not (sameSet changed emptySet) ≡ loses rules (relationIn start)
-      first-lost =
-          changed-loses rules (relationIn start) changed four-changed bounded
-          (λ none. sym first-refined ∙ unchanged none) (λ fixed q h. go fixed q h (member changed q) refl)
-        where
-          go : refine rules (relationIn start) ≡ relationIn start → (q : ℕ) → q < 256 → (t : Bool) → member changed q ≡ t → t ≡ false
-          go fixed q h true e =
-              let m = and-true-out (member set q) _ (and-true-out (ltb q n) _ (sym (is q h) ∙ e) .1) .0 in
-              absurd (few q h e (λ r b.
-              sym (related-in first q r h b) ∙ ap (λ (R : Relation). related R q r) (first-refined ∙ fixed)
-              ∙ related-in start q r h b ∙ started q h r b ∙ rw m))
-          go fixed q h false e = refl
-
-      pub going-first : (next : List (List ℕ)) → Copied n first next
-          → Going n rules (allPairs (statesIn 256 set) (statesIn 256 set)) first next changed 0
-      going-first next copied =
-          record {
-            last = relationIn start;
-            refined = rw all-pairs (refined-none rules (allPairs (statesIn 256 set) (statesIn 256 set)));
-            holds = first-refined;
-            quiet = first-quiet;
-            lost = first-lost;
-            copied = copied;
-            low = first-low;
-          }
+    pub going-first : length changed ≡ 4 → Bounded changed → (next : List (List ℕ)) → Copied n first next
+        → Going n rules (statesIn 256 set) first next changed 0
+    unfolding relationAt
+    going-first four-changed bounded-changed next copied =
+        record {
+          early = omega arith;
+          holds = first-refined ∙ ap (refine rules) all-pairs;
+          quiet = first-quiet;
+          more = changed-more rules (statesIn 256 set) 0 (omega arith) (relationIn start) all-pairs changed four-changed bounded-changed
+              (λ none. sym first-refined ∙ relation-same start first (λ q h. row-same q h (none q h))) changed-other;
+          copied = copied;
+          low = first-low;
+        }

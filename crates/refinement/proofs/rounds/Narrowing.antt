@@ -1,29 +1,24 @@
--- Taking states out of a row, from the lowest bit of each word up: the states before a place are judged, the others are as they were.
+-- The loops of `narrow`: states are taken out of a row, from the lowest bit of each word up. The states before a place are judged, the others are
+-- as they were; and what is left of a word says which state is next.
 use Prim.Native.Nat.{ℕ, zero, suc, _+_, _-_, _*_, _/_, _%_, _^_, _≤_, _<_}
 use native.Mathlib.Decide.{ℕ-discrete, decLt}
 use native.Mathlib.Nat.{pow-suc, zero-div}
 use native.Mathlib.Omega.{arith}
 use mathlib.Core.Path.{_≡_, refl, sym, ap, _∙_}
-use mathlib.Core.List.{List, List·Memᴰ}
-use mathlib.Core.Bool.{Bool, true, false, _&&_, and-false, true≢false, false≢true}
+use mathlib.Core.List.{List}
+use mathlib.Core.Bool.{Bool, true, false, _&&_, and-true, and-false, true≢false, false≢true}
 use lib.ListN.{length, getD}
 use lib.Seq.{take-length}
 use lib.Pow.{shr-lt, shr-shr}
 use lib.Count.{trailingZeros, under}
 use borrow.Author.Tests.{eq-eqb, ne-eqb}
 use Rattle.lists.specs.Over.{over}
-use Rattle.lists.specs.Lists.{any}
+use Rattle.lists.proofs.Booleans.{and-same}
 use Rattle.sets.specs.Set.{member, words, replaced, withoutState}
 use Rattle.sets.specs.Entries.{entryAt}
-use Rattle.sets.specs.Inner.{Has, Below}
+use Rattle.sets.specs.Inner.{Has}
 use Rattle.sets.proofs.StateSets.{bit, bit-suc, member-without}
 use Rattle.sets.proofs.EntrySets.{over-length, entry-put}
-use Rattle.automaton.specs.Automaton.{Rule}
-use Rattle.automaton.specs.Row.{ruleAt, rulesIn, Row}
-use Rattle.indexing.specs.Index.{numbersOf}
-use Rattle.indexing.proofs.Indexing.{keyed-members, any-keyed}
-use Rattle.refinement.specs.Simulation.{Relation, matchedBy, matched}
-use Rattle.refinement.specs.Inner.{Answering}
 
 -- The states below n are those that pass a test; whether a state was taken out.
 pub record Narrowed (test : ℕ → Bool) (first : List ℕ) (n : ℕ) (row : List ℕ) (lost : Bool) : Type 0 where
@@ -47,15 +42,15 @@ module _ {test : ℕ → Bool} {first : List ℕ} {n : ℕ} {row : List ℕ} {lo
       → Narrowed test first m row lost
   narrowed-on m h pass = record {
     long = r .long;
-    low = λ s b l. elim (decLt s n) [ yes d ↦ r .low s b d | no d ↦ stays s b (omega arith) l (member row s) refl ];
+    low = λ s b l. elim (decLt s n) [
+      | yes d ↦ r .low s b d
+      | no d ↦ r .high s b (omega arith) ∙ sym (and-true (member first s))
+          ∙ and-same (member first s) (λ e. sym (pass s b (omega arith) l (r .high s b (omega arith) ∙ e)))
+    ];
     high = λ s b l. r .high s b (omega arith);
     same = r .same;
     fewer = r .fewer;
   }
-    where
-      stays : (s : ℕ) → s < 256 → n ≤ s → s < m → (t : Bool) → member row s ≡ t → member row s ≡ (member first s && test s)
-      stays s b l d true e = rw (← r .high s b l, e, pass s b l d e)
-      stays s b l d false e = rw (← r .high s b l, e)
 
   pub narrowed-out : n < 256 → member row n ≡ true → test n ≡ false → Narrowed test first (n + 1) (withoutState row n) true
   unfolding withoutState replaced words
@@ -169,22 +164,18 @@ module _ {row : List ℕ} {r end rest : ℕ} (left : Rest row r end rest) where
 -- The next state, at place r + t, stays or is taken out.
 module _ {test : ℕ → Bool} {first : List ℕ} {r : ℕ} {row : List ℕ} {lost : Bool} (n : Narrowed test first r row lost)
     {d t : ℕ} (f : First (λ (s : ℕ). member row (r + s)) d t) where
-  -- States between that are not in the row do not matter.
-  passed : (s : ℕ) → r ≤ s → s < r + t → member row s ≡ true → test s ≡ true
-  passed s l h is =
+  -- The states between are not in the row.
+  narrowed-between : Narrowed test first (r + t) row lost
+  narrowed-between = narrowed-on n (r + t) (omega arith) (λ s b l h is.
       let place : s ≡ r + (s - r) = omega arith in
-      absurd (false≢true (sym (f .before (s - r) (omega arith)) ∙ ap (member row) (sym place) ∙ is))
+      absurd (false≢true (sym (f .before (s - r) (omega arith)) ∙ ap (member row) (sym place) ∙ is)))
 
   pub next-stays : test (r + t) ≡ true → Narrowed test first (r + t + 1) row lost
   next-stays passes =
-      narrowed-on n (r + t + 1) (omega arith)
-      (λ s b l h is. elim (decLt s (r + t)) [
-        | yes d ↦ passed s l d is
-        | no d ↦ let e : s ≡ r + t = omega arith in rw e passes
-      ])
+      narrowed-on narrowed-between (r + t + 1) (omega arith) (λ s b l h is. let e : s ≡ r + t = omega arith in rw e passes)
 
   pub next-out : r + t < 256 → test (r + t) ≡ false → Narrowed test first (r + t + 1) (withoutState row (r + t)) true
-  next-out small fails = narrowed-out (narrowed-on n (r + t) (omega arith) (λ s b l h is. passed s l h is)) small (f .is) fails
+  next-out small fails = narrowed-out narrowed-between small (f .is) fails
 
   pub next-member : r + t < 256 → member first (r + t) ≡ true
   next-member small = sym (n .high (r + t) small (omega arith)) ∙ f .is
@@ -202,21 +193,3 @@ put-whole row new four long =
 pub put-without : (row : List ℕ) (q : ℕ) → length row ≡ 4 → over row 0 (withoutState (entryAt row 0) q) ≡ withoutState row q
 unfolding withoutState replaced words
 put-without row q four = rw (entry-whole row four) (put-whole row (withoutState row q) four refl)
-
--- The rules that answer for a state.
-
-pub below-low : {n : ℕ} (row : List ℕ) → Below n row → (s : ℕ) → s < 256 → member row s ≡ true → s < n
-unfolding Below
-below-low {n} row low s h is = elim (decLt s n) [ yes l ↦ l | no l ↦ absurd (false≢true (sym (low s (omega arith) h) ∙ is)) ]
-
-module _ {k n : ℕ} {rows index : List ℕ} (a : Answering k n rows index) {r : ℕ} (h : r < n) where
-  pub answering-rows : (j : ℕ) → List·Memᴰ j (numbersOf index r) → Row rows j
-  answering-rows j m =
-      let inside = keyed-members (λ (u : Rule). u .target) rows r 0 k j (rw (a .index-is .numbers r h) at m) in
-      a .rules .row j (omega arith)
-
-  pub answering-matched : (R : Relation) (u : Rule)
-      → any (λ (j : ℕ). matchedBy R u (ruleAt rows j)) (numbersOf index r) ≡ matched (rulesIn rows k) R r u
-  unfolding matched
-  answering-matched R u =
-      rw (a .index-is .numbers r h) (any-keyed (λ (u : Rule). u .target) rows r k (matchedBy R u))

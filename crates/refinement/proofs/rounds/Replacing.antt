@@ -1,4 +1,5 @@
--- Sets put one after the other: at the entries of the states of a set, and by the rules of some rows.
+-- Sets put one after the other: at the entries of the states of a set, for the loops of `start` and `put_back`; and by the rules of some rows,
+-- for those of `hold_targets` and `first_round`.
 use Prim.Native.Nat.{ℕ, _+_, _*_, _/_, _≤_, _<_}
 use native.Mathlib.Decide.{ℕ-discrete, decLt}
 use native.Mathlib.Nat.{zero-div}
@@ -22,7 +23,7 @@ use Rattle.sets.proofs.EntrySets.{entry-at, entry-put, entry-other}
 use Rattle.automaton.specs.Automaton.{Rule}
 use Rattle.automaton.specs.Row.{ruleAt, rulesIn}
 use Rattle.automaton.proofs.Rows.{rules-next}
-use Rattle.refinement.specs.Inner.{leads}
+use Rattle.refinement.specs.Inner.{isTarget}
 
 -- Of the entries below q those of the states of a set are new, and the others old.
 pub record Replaced (states : List ℕ) (new old : ℕ → List ℕ) (q : ℕ) (words : List ℕ) : Type 0 where
@@ -70,12 +71,9 @@ replaced-start {n} states words last r zeros above q h s b =
 
 -- By one rule more.
 
-eqb-sym : (a b : ℕ) → eqb a b ≡ eqb b a
-eqb-sym a b = same-test a b b a sym sym
-
-pub leads-none : (rows : List ℕ) (f r : ℕ) → leads (rulesIn rows 0) f r ≡ false
-unfolding leads rulesIn any from
-leads-none rows f r = refl
+pub target-none : (rows : List ℕ) (f r : ℕ) → isTarget (rulesIn rows 0) f r ≡ false
+unfolding isTarget rulesIn any from
+target-none rows f r = refl
 
 -- A state of the old entry q that is held for the symbol of each rule of target q.
 abbrev pub met : List (List ℕ) → List ℕ → List Rule → ℕ → ℕ → Bool
@@ -87,47 +85,47 @@ unfolding rulesIn all from
 met-none holders old rows q r = sym (and-true (member (entryAt old q) r))
 
 module _ (rows : List ℕ) (i : ℕ) where
-  leads-next : (f r : ℕ) → leads (rulesIn rows (i + 1)) f r
-      ≡ (leads (rulesIn rows i) f r || (eqb (ruleAt rows i .symbol) f && eqb (ruleAt rows i .target) r))
-  unfolding leads any
-  leads-next f r = rw (rules-next, any-append, or-false)
+  target-next : (f r : ℕ) → isTarget (rulesIn rows (i + 1)) f r
+      ≡ (isTarget (rulesIn rows i) f r || (eqb (ruleAt rows i .symbol) f && eqb (ruleAt rows i .target) r))
+  unfolding isTarget any
+  target-next f r = rw (rules-next, any-append, or-false)
 
   -- The set of the rule's symbol gets the rule's target.
-  pub holds-next : (holders : List (List ℕ)) → ruleAt rows i .symbol < length holders
-      → ((f : ℕ) → f < 256 → Has (getD holders f []) (leads (rulesIn rows i) f))
+  pub hold-next : (holders : List (List ℕ)) → ruleAt rows i .symbol < length holders
+      → ((f : ℕ) → f < 256 → Has (getD holders f []) (isTarget (rulesIn rows i) f))
       → (f : ℕ) → f < 256
       → Has (getD (set holders (ruleAt rows i .symbol) (withState (getD holders (ruleAt rows i .symbol) []) (ruleAt rows i .target))) f [])
-      (leads (rulesIn rows (i + 1)) f)
-  holds-next holders room has f h r b =
+      (isTarget (rulesIn rows (i + 1)) f)
+  hold-next holders room has f h r b =
       elim (ℕ-discrete f (ruleAt rows i .symbol)) [
         | yes same ↦
             rw (same, getD-set-same holders (ruleAt rows i .symbol) _ [] room, member-with _ (ruleAt rows i .target) r b, ← same)
-            (rw (leads-next f r, has f h r b, eq-eqb (ruleAt rows i .symbol) f (sym same), eqb-sym r (ruleAt rows i .target))
-            (or-comm (eqb (ruleAt rows i .target) r) (leads (rulesIn rows i) f r)))
+            (rw (target-next f r, has f h r b, eq-eqb (ruleAt rows i .symbol) f (sym same), same-test r (ruleAt rows i .target) (ruleAt rows i .target) r sym sym)
+            (or-comm (eqb (ruleAt rows i .target) r) (isTarget (rulesIn rows i) f r)))
         | no other ↦
             rw (getD-set-other holders (ruleAt rows i .symbol) f _ [] other)
-            (has f h r b ∙ rw (leads-next f r, ne-eqb (ruleAt rows i .symbol) f (λ e. other (sym e)), or-false))
+            (has f h r b ∙ rw (target-next f r, ne-eqb (ruleAt rows i .symbol) f (λ e. other (sym e)), or-false))
       ]
 
-  every-next : (test : Rule → Bool) → all test (rulesIn rows (i + 1)) ≡ (all test (rulesIn rows i) && test (ruleAt rows i))
+  pub all-next : (test : Rule → Bool) → all test (rulesIn rows (i + 1)) ≡ (all test (rulesIn rows i) && test (ruleAt rows i))
   unfolding all
-  every-next test = rw (rules-next, all-joined, and-true)
+  all-next test = rw (rules-next, all-joined, and-true)
 
   -- The entry of the rule's target keeps what is held for the rule's symbol.
-  pub meets-next : (holders : List (List ℕ)) (old words : List ℕ) → 4 * (ruleAt rows i .target) + 4 ≤ length words
+  pub meet-next : (holders : List (List ℕ)) (old words : List ℕ) → 4 * (ruleAt rows i .target) + 4 ≤ length words
       → ((q : ℕ) → q < 256 → Has (entryAt words q) (met holders old (rulesIn rows i) q))
       → (q : ℕ) → q < 256
       → Has (entryAt (over words (4 * (ruleAt rows i .target))
       (meetOf (entryAt words (ruleAt rows i .target)) (getD holders (ruleAt rows i .symbol) []))) q)
       (met holders old (rulesIn rows (i + 1)) q)
   unfolding meetOf sets.words
-  meets-next holders old words room has q h r b =
+  meet-next holders old words room has q h r b =
       elim (ℕ-discrete q (ruleAt rows i .target)) [
         | yes same ↦
             rw (same, entry-put words _ (ruleAt rows i .target) refl room, member-meet _ _ r b, ← same)
-            (rw (has q h r b, every-next, eq-eqb (ruleAt rows i .target) q (sym same))
+            (rw (has q h r b, all-next, eq-eqb (ruleAt rows i .target) q (sym same))
             (and-assoc (member (entryAt old q) r) _ (member (getD holders (ruleAt rows i .symbol) []) r)))
         | no other ↦
             rw (entry-other words _ (ruleAt rows i .target) refl room q other)
-            (has q h r b ∙ rw (every-next, ne-eqb (ruleAt rows i .target) q (λ e. other (sym e)), and-true))
+            (has q h r b ∙ rw (all-next, ne-eqb (ruleAt rows i .target) q (λ e. other (sym e)), and-true))
       ]

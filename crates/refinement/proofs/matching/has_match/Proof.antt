@@ -9,7 +9,7 @@ use Rattle.lists.proofs.Search.{any-stop, any-go-on, any-end}
 use Rattle.automaton.specs.Row.{ruleAt}
 use Rattle.indexing.proofs.Indexing.{at-member}
 use Rattle.refinement.specs.Simulation.{matchedBy}
-use Rattle.refinement.specs.Words.{relationIn}
+use Rattle.refinement.specs.Inner.{relationIn}
 use Rattle.refinement.proofs.matching.has_match.Tie as tie
 use Rattle.refinement.proofs.matching.has_match.Statement.{statement}
 

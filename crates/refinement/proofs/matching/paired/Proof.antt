@@ -7,7 +7,7 @@ use borrow.Author.Tests.{not-true, not-false}
 use borrow.Author.Needs.{needs}
 use Rattle.lists.proofs.Booleans.{and-false-left, and-left}
 use Rattle.refinement.specs.Simulation.{paired}
-use Rattle.refinement.specs.Words.{relationIn}
+use Rattle.refinement.specs.Inner.{relationIn}
 use Rattle.refinement.proofs.matching.paired.Tie as tie
 use Rattle.refinement.proofs.matching.Children.{paired-other, paired-next, paired-end}
 use Rattle.refinement.proofs.matching.paired.Statement.{statement}

@@ -1,4 +1,4 @@
--- `simulation::rounds::below` meets its contract: the set has the states below the index.
+-- The set has the states below the index.
 use borrow.Author.Needs.{needs}
 use borrow.Author.Tests.{le-ltb}
 use native.Mathlib.Omega.{arith}

@@ -1,12 +1,12 @@
--- `simulation::rounds::copy_rows` meets its contract: the rows before the index are copied, and those that are not full are noted.
+-- The rows before the index are copied, and those that are not full are noted.
 use borrow.Author.Needs.{needs}
-use borrow.Author.Tests.{le-ltb, not-true}
+use borrow.Author.Tests.{le-ltb}
 use native.Mathlib.Omega.{arith}
 use Prim.Native.Nat.{ℕ, _-_, _≤_, _<_}
 use mathlib.Core.Path.{_≡_, refl, sym, _∙_}
 use mathlib.Core.Logic.{⊎-elim}
 use mathlib.Core.List.{List, []}
-use mathlib.Core.Bool.{Bool, true, false, not, _&&_, false≢true}
+use mathlib.Core.Bool.{Bool, not, _&&_}
 use lib.ListN.{length, getD, length-set}
 use mir.Syntax.{w64}
 use mir.Val.{Fits}
@@ -16,7 +16,7 @@ use Rattle.lists.proofs.Arrays.{filled-more}
 use Rattle.sets.specs.Set.{member, sameSet}
 use Rattle.sets.specs.Entries.{entryAt}
 use Rattle.sets.specs.Inner.{Has}
-use Rattle.sets.proofs.StateSets.{member-empty, below-in, below-out, sets-differ, with-each}
+use Rattle.sets.proofs.StateSets.{member-empty, below-in, below-out, Bounded}
 use Rattle.refinement.specs.Inner.{Copied}
 use Rattle.refinement.proofs.rounds.copy_rows.Tie as tie
 use Rattle.refinement.proofs.rounds.copy_rows.Statement.{statement}
@@ -27,21 +27,18 @@ notFull states words q = member states q && not (sameSet (entryAt words q) state
 
 abbrev Inv-loop : tie.InvT-loop
 Inv-loop states n words next₀ changed₀ q₀ next changed q =
-    (q ≤ n) × (length next ≡ length next₀) × Copied q words next
+    (q ≤ n) × (length next ≡ length next₀) × ((r : ℕ) → r < q → (getD next r [] ≡ entryAt words r) × Bounded (entryAt words r))
     × Has (changed .words) (λ (r : ℕ). ltb r q && notFull (states .words) words r)
-    × ((r : ℕ) → r < 256 → member (changed .words) r ≡ true → Has (entryAt words r) (member (states .words)) → ⊥)
 
 abbrev μ-loop : tie.MeasureT-loop
 μ-loop states n words next₀ changed₀ q₀ next changed q = n - q
 
 loop-holds : tie.Need-loop-holds Inv-loop μ-loop
-unfolding Copied
 loop-holds c = (
   search needs,
   refl,
   (λ q h. absurd (omega arith)),
-  (λ r h. rw (c .empty .ensures, le-ltb r 0 (omega arith)) (member-empty r h)),
-  λ r h is. absurd (false≢true (sym (rw (c .empty .ensures) (member-empty r h)) ∙ is)),
+  λ r h. rw (c .empty .ensures, le-ltb r 0 (omega arith)) (member-empty r h),
 )
 
 low : (c : tie.In-loop Inv-loop μ-loop) → c .before .loop .q < 256
@@ -54,22 +51,12 @@ room c = omega (arith, low c, c .before .loop .inv .1, c .before .before .before
 entry-requires : tie.Need-entry-requires Inv-loop μ-loop
 entry-requires c κs = omega (arith, low (c .before), c .entry-arg .given .0)
 
--- A row that is not full has other members.
-other : (c : tie.After-entry Inv-loop μ-loop)
-    → let a = c .before .before .before .before .before .args in
-    sameSet (c .entry .result .words) (a .states .words) ≡ false
-    → Has (entryAt (a .words .now) (c .before .before .before .loop .q)) (member (a .states .words)) → ⊥
-other c differ =
-    let s = c .before .before .before .before .before in
-    let four : length (s .args .states .words) ≡ 4 = search needs in
-    let row-four : length (c .entry .result .words) ≡ 4 = search needs in
-    rw (← c .entry .ensures)
-    (sets-differ _ _ row-four four
-    (λ i. let f : Fits w64 (getD (c .entry .result .words) i 0) = search (needs, c .entry .ok) in f .fits)
-    (λ i. let f : Fits w64 (getD (s .args .states .words) i 0) = search (needs, s .good) in f .fits) differ)
+bounded : (c : tie.After-entry Inv-loop μ-loop)
+    → Bounded (entryAt (c .before .before .before .before .before .args .words .now) (c .before .before .before .loop .q))
+bounded c =
+    rw (← c .entry .ensures) (λ i. let f : Fits w64 (getD (c .entry .result .words) i 0) = search (needs, c .entry .ok) in f .fits)
 
 loop-again : tie.Need-loop-again Inv-loop μ-loop
-unfolding Copied
 loop-again c =
     let e = c .before .before .before in
     let i = e .before .before in
@@ -79,8 +66,8 @@ loop-again c =
     let has = c .before .has .ensures in (
       omega arith,
       simp length-set (l .inv .1),
-      filled-more (λ (q : ℕ) (row : List ℕ). row ≡ entryAt (a .words .now) q) [] (l .next) (l .q) _ (room i) (l .inv .2)
-          (e .entry .ensures),
+      filled-more (λ (q : ℕ) (row : List ℕ). (row ≡ entryAt (a .words .now) q) × Bounded (entryAt (a .words .now) q)) [] (l .next) (l .q) _
+          (room i) (l .inv .2) (e .entry .ensures, bounded e),
       ⊎-elim
           (λ w. rw (w .4, w .3 .ensures)
           (below-in (l .changed .words) test (l .q) (l .inv .3) (low i)
@@ -92,21 +79,15 @@ loop-again c =
           (λ v. and-false-left _ (sym has ∙ v .left))
           (w .0 .came))))
           (c .if1 .came),
-      ⊎-elim
-          {C = (r : ℕ) → r < 256 → member (c .if1 .changed .words) r ≡ true
-          → Has (entryAt (a .words .now) r) (member (a .states .words)) → ⊥}
-          (λ w. rw (w .4, w .3 .ensures)
-          (with-each (λ (r : ℕ). Has (entryAt (a .words .now) r) (member (a .states .words)) → ⊥) (l .changed .words) (l .q) (l .inv .4)
-          (other e (not-true _ (rw (w .1 .ensures) at (w .2 .taken))))))
-          (λ w. rw (w .1) (l .inv .4))
-          (c .if1 .came),
     )
 
 returns : tie.Need-returns Inv-loop μ-loop
+unfolding Copied
 returns c =
     let l = c .before .loop in
     let end : l .q ≡ c .before .before .before .args .n = omega arith in
-    (rw end at (l .inv .2), (rw end at (l .inv .3), l .inv .4))
+    let rows = rw end at (l .inv .2) in
+    ((λ q h. rows q h .0), ((λ q i h. rows q h .1 i), rw end at (l .inv .3)))
 
 pub copy-rows-spec : {M : Type 1} → statement M
 copy-rows-spec =

@@ -1,4 +1,4 @@
--- `simulation::rounds::first_round` meets its contract: the rows have met what is held for the rules before the index.
+-- The rows have met what is held for the rules before the index.
 use borrow.Author.Needs.{needs}
 use native.Mathlib.Omega.{arith}
 use Prim.Native.Nat.{ℕ, _+_, _*_, _-_, _≤_, _<_}
@@ -8,7 +8,7 @@ use Rattle.sets.specs.Entries.{entryAt}
 use Rattle.sets.specs.Inner.{Has}
 use Rattle.automaton.specs.Row.{rulesIn}
 use Rattle.refinement.proofs.rounds.first_round.Tie as tie
-use Rattle.refinement.proofs.rounds.Replacing.{met, met-none, meets-next}
+use Rattle.refinement.proofs.rounds.Replacing.{met, met-none, meet-next}
 use Rattle.refinement.proofs.rounds.first_round.Statement.{statement}
 
 abbrev Inv-loop : tie.InvT-loop
@@ -43,7 +43,7 @@ loop-again c =
       omega arith,
       p .put-entry .kept .0 ∙ l .inv .1,
       rw (p .put-entry .ensures, m .meet .ensures, e .entry .ensures, m .before .row-of .ensures, target, symbol)
-          (meets-next (a .rows .now) (l .i) (a .holders .now) (a .words .now) (l .words) (rw target at (room t)) (l .inv .2)),
+          (meet-next (a .rows .now) (l .i) (a .holders .now) (a .words .now) (l .words) (rw target at (room t)) (l .inv .2)),
     )
 
 returns : tie.Need-returns Inv-loop μ-loop

@@ -1,4 +1,4 @@
--- `simulation::rounds::hold_targets` meets its contract: the targets of the rules before the index are held.
+-- The targets of the rules before the index are held.
 use borrow.Author.Needs.{needs}
 use native.Mathlib.Omega.{arith}
 use Prim.Native.Nat.{ℕ, _-_, _≤_, _<_}
@@ -9,14 +9,14 @@ use Rattle.sets.specs.Set.{member}
 use Rattle.sets.specs.Inner.{Has}
 use Rattle.sets.proofs.StateSets.{member-empty}
 use Rattle.automaton.specs.Row.{rulesIn}
-use Rattle.refinement.specs.Inner.{leads}
+use Rattle.refinement.specs.Inner.{isTarget}
 use Rattle.refinement.proofs.rounds.hold_targets.Tie as tie
-use Rattle.refinement.proofs.rounds.Replacing.{leads-none, holds-next}
+use Rattle.refinement.proofs.rounds.Replacing.{target-none, hold-next}
 use Rattle.refinement.proofs.rounds.hold_targets.Statement.{statement}
 
 abbrev Inv-loop : tie.InvT-loop
 Inv-loop others k holders₀ i₀ holders i =
-    (i ≤ k) × (length holders ≡ length holders₀) × ((f : ℕ) → f < 256 → Has (getD holders f []) (leads (rulesIn others i) f))
+    (i ≤ k) × (length holders ≡ length holders₀) × ((f : ℕ) → f < 256 → Has (getD holders f []) (isTarget (rulesIn others i) f))
 
 abbrev μ-loop : tie.MeasureT-loop
 μ-loop others k holders₀ i₀ holders i = k - i
@@ -27,7 +27,7 @@ loop-holds c =
       search needs,
       refl,
       λ f h r b.
-          ap (λ (ws : List ℕ). member ws r) (s .pre .1 f h) ∙ member-empty r b ∙ sym (leads-none (s .args .others .now) f r),
+          ap (λ (ws : List ℕ). member ws r) (s .pre .1 f h) ∙ member-empty r b ∙ sym (target-none (s .args .others .now) f r),
     )
 
 -- There is a set for the symbol.
@@ -45,7 +45,7 @@ loop-again c =
       omega arith,
       simp length-set (l .inv .1),
       rw (w .with .ensures, t .target-of .ensures, o .row-of .ensures, y .symbol-of .ensures)
-          (holds-next (a .others .now) (l .i) (l .holders) (rw (y .symbol-of .ensures) at (room y)) (l .inv .2)),
+          (hold-next (a .others .now) (l .i) (l .holders) (rw (y .symbol-of .ensures) at (room y)) (l .inv .2)),
     )
 
 returns : tie.Need-returns Inv-loop μ-loop

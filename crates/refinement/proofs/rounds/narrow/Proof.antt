@@ -1,5 +1,4 @@
--- `simulation::rounds::narrow` meets its contract: the states before the index are judged; the bits of a word that are left are those from
--- the index on.
+-- The states before the index are judged; the bits of a word that are left are those from the index on.
 use borrow.Author.Needs.{needs}
 use borrow.Author.Tests.{not-true, not-false}
 use native.Mathlib.Omega.{arith}
@@ -16,11 +15,12 @@ use Rattle.sets.specs.Set.{member, withoutState}
 use Rattle.automaton.specs.Row.{ruleAt}
 use Rattle.indexing.specs.Index.{numbersOf}
 use Rattle.refinement.specs.Simulation.{matchedBy}
-use Rattle.refinement.specs.Words.{relationIn}
+use Rattle.refinement.specs.Inner.{relationIn}
 use Rattle.refinement.proofs.rounds.narrow.Tie as tie
 use Rattle.refinement.proofs.rounds.Narrowing.{Narrowed, narrowed-none, narrowed-on, Rest, rest-word, rest-none, rest-without}
 use Rattle.refinement.proofs.rounds.Narrowing.{rest-next, rest-first, First, next-stays, next-out, next-member, put-without}
-use Rattle.refinement.proofs.rounds.Narrowing.{below-low, answering-rows, answering-matched}
+use Rattle.refinement.proofs.Answering.{keyed-rows, keyed-matched}
+use Rattle.refinement.proofs.RelationRows.{below-low}
 use Rattle.refinement.proofs.rounds.narrow.Statement.{statement}
 
 -- Some rule that the index has for a state matches rule i.
@@ -98,7 +98,8 @@ passing c = sym (rw (← c .before .rules-of .ensures) (c .has-match .ensures))
 has-match-requires : tie.Need-has-match-requires Inv-loop2 μ-loop2 Inv-loop μ-loop
 has-match-requires c κs =
     let p = begin (c .before .before) .pre in
-    (p .0 .1, λ j m. answering-rows (p .1 .1 .1 .0) (answers (c .before)) j (rw (c .rules-of .ensures) at m))
+    let a = p .1 .1 .1 .0 in
+    (p .0 .1, keyed-rows _ _ _ (c .rules-of .ensures ∙ a .index-is .numbers _ (answers (c .before))) (a .rules))
 
 loop2-again : tie.Need-loop2-again Inv-loop2 μ-loop2 Inv-loop μ-loop
 loop2-again c =
@@ -137,7 +138,7 @@ returns c =
     let l = c .before .loop in
     let r = l .inv .1 in (
       r .same,
-      (r .fewer, λ k n a low q b. r .low q b (omega arith) ∙ and-same _ (λ is. answering-matched a (below-low _ low q b is) _ _)),
+      (r .fewer, λ k n a low q b. r .low q b (omega arith) ∙ and-same _ (λ is. keyed-matched _ k q (a .index-is .numbers q (below-low _ low q b is)) _ _)),
     )
 
 pub narrow-spec : {M : Type 1} → statement M

@@ -1,4 +1,4 @@
--- `simulation::rounds::put_back` meets its contract: of the rows below the index those of the changed states are the next relation's.
+-- Of the rows below the index those of the changed states are the next relation's.
 use borrow.Author.Needs.{needs}
 use native.Mathlib.Omega.{arith}
 use Prim.Native.Nat.{ℕ, _+_, _*_, _-_, _≤_}

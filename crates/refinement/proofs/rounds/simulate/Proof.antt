@@ -1,4 +1,4 @@
--- `simulation::rounds::simulate` meets its contract: each turn makes the round after one that lost a pair, and the last round lost none.
+-- Each turn makes the round after one that lost a pair, and the last round lost none.
 use borrow.Author.Needs.{needs}
 use borrow.Author.Tests.{le-ltb}
 use native.Mathlib.Omega.{arith}
@@ -11,23 +11,21 @@ use mir.Syntax.{w64}
 use mir.Val.{Fits}
 use Rattle.sets.specs.Set.{emptySet, sameSet, words, statesIn}
 use Rattle.sets.specs.Inner.{Below}
-use Rattle.sets.proofs.StateSets.{states-below, Bounded, states-low}
+use Rattle.sets.proofs.StateSets.{states-below, states-low}
 use Rattle.automaton.specs.Automaton.{Rule}
 use Rattle.automaton.specs.Row.{rulesIn}
 use Rattle.automaton.proofs.Rows.{rule-in, rules-each, rule-low}
-use Rattle.refinement.specs.Simulation.{Relation, allPairs}
 use Rattle.refinement.specs.Inner.{Simulable, Roundable}
 use Rattle.refinement.proofs.rounds.simulate.Tie as tie
-use Rattle.refinement.proofs.rounds.Losses.{loses-less, pairs-few}
-use Rattle.refinement.proofs.rounds.Underway.{Going, going-next, going-done}
+use Rattle.refinement.proofs.rounds.Going.{Going, going-next, going-done, going-few, states-few}
 use Rattle.refinement.proofs.rounds.First.{going-first}
 use Rattle.refinement.proofs.rounds.simulate.Statement.{statement}
 
 abbrev Inv-loop : tie.InvT-loop
 Inv-loop size rows index words₀ next₀ changed₀ rounds₀ words next changed rounds =
     (length words ≡ 1024) × (length next ≡ 256)
-    × ((R : Relation) → Going (size .states) (rulesIn rows (size .rules)) R words₀ next₀ (changed₀ .words) 0
-    → Going (size .states) (rulesIn rows (size .rules)) R words next (changed .words) rounds)
+    × ((states : List ℕ) → Going (size .states) (rulesIn rows (size .rules)) states words₀ next₀ (changed₀ .words) 0
+    → Going (size .states) (rulesIn rows (size .rules)) states words next (changed .words) rounds)
 
 abbrev μ-loop : tie.MeasureT-loop
 μ-loop size rows index words₀ next₀ changed₀ rounds₀ words next changed rounds = 65536 - rounds
@@ -49,15 +47,15 @@ module _ (c : tie.After-below Inv-loop μ-loop) where
   abbrev states : List ℕ
   states = statesIn (begin c .args .size .states) (begin c .args .states .words)
 
-  few : n ≤ 256
-  few = begin c .pre .0 .states
+  small : n ≤ 256
+  small = begin c .pre .0 .states
 
   set-low : Below n set
   unfolding Below
   set-low q h b = c .below .ensures q b ∙ rw (le-ltb q n h)
 
   states-are : statesIn 256 set ≡ states
-  states-are = states-below (begin c .args .states .words) set n few (c .below .ensures)
+  states-are = states-below (begin c .args .states .words) set n small (c .below .ensures)
 
   simulable : Simulable rules states
   simulable = begin c .pre .1 .0
@@ -66,7 +64,7 @@ module _ (c : tie.After-below Inv-loop μ-loop) where
   targets u m = states-low n (begin c .args .states .words) _ (simulable .targets u m)
 
   children : (u : Rule) → List·Memᴰ u rules → (q : ℕ) → List·Memᴰ q (u .children) → q < 256
-  children u m q d = omega (arith, few, states-low n (begin c .args .states .words) _ (simulable .children u m q d))
+  children u m q d = omega (arith, small, states-low n (begin c .args .states .words) _ (simulable .children u m q d))
 
   symbols : (u : Rule) → List·Memᴰ u rules → u .symbol < 256
   symbols =
@@ -82,7 +80,7 @@ start-requires : tie.Need-start-requires Inv-loop μ-loop
 unfolding Below
 start-requires c κs =
     let b = c .before .before .before .before in
-    ((few b, c .start-arg .given .0 .1), (set-low b, begin b .pre .1 .1))
+    ((small b, c .start-arg .given .0 .1), (set-low b, begin b .pre .1 .1))
 
 first-round-requires : tie.Need-first-round-requires Inv-loop μ-loop
 first-round-requires c κs =
@@ -92,7 +90,7 @@ first-round-requires c κs =
 copy-rows-requires : tie.Need-copy-rows-requires Inv-loop μ-loop
 copy-rows-requires c κs =
     let h = c .before .before .before .before .before .before .before .before in
-    (few (h .before .before), h .hold-targets .kept .1 .1 .0)
+    (small (h .before .before), h .hold-targets .kept .1 .1 .0)
 
 -- After the first round.
 module _ (c : tie.After-next5 Inv-loop μ-loop) where
@@ -114,26 +112,27 @@ module _ (c : tie.After-next5 Inv-loop μ-loop) where
   long : length (rounded .first-round .last .1 .1 .1 .0) ≡ 1024
   long = rounded .first-round .kept .1 .1 .1 .0 ∙ rounded .before .first-round-arg .given .0 .1
 
-  first : Going (n low) (rules low) (allPairs (states low) (states low)) (rounded .first-round .last .1 .1 .1 .0)
+  going-before : Going (n low) (rules low) (states low) (rounded .first-round .last .1 .1 .1 .0)
       (copied .copy-rows .last .1 .1 .1 .0) (copied .copy-rows .result .words) 0
-  first =
+  going-before =
       let changed = copied .copy-rows .result .words in
       let bounds : (i : ℕ) → Fits w64 (getD changed i 0) = λ i. search needs in
+      let set-bounds : (i : ℕ) → Fits w64 (getD (set low) i 0) = λ i. search needs in
       rw (← states-are low)
       (going-first (n low) (rules low) (set low) (set-low low) (rw (states-are low) (simulable low)) (symbols low)
       (held .hold-targets .last .1 .1 .0) (held .hold-targets .ensures) (started .start .last .1 .1 .0)
       (rounded .first-round .last .1 .1 .1 .0) (started .start .ensures) (rounded .first-round .ensures) changed
-      (copied .copy-rows .ensures .1 .0) (search needs) long (copied .copy-rows .ensures .1 .1) (search needs) (λ i. bounds i .fits) _
-      (copied .copy-rows .ensures .0))
+      (copied .copy-rows .ensures .1 .1) (search needs) (λ i. set-bounds i .fits) long (copied .copy-rows .ensures .1 .0) (search needs)
+      (λ i. bounds i .fits) _ (copied .copy-rows .ensures .0))
 
 loop-holds : tie.Need-loop-holds Inv-loop μ-loop
-loop-holds c = (long c, c .next5 .given, λ R g. g)
+loop-holds c = (long c, c .next5 .given, λ states g. g)
 
 going : (c : tie.At-loop Inv-loop μ-loop)
     → let low = low (c .before) in
-    Going (n low) (rules low) (allPairs (states low) (states low)) (c .loop .words) (c .loop .next) (c .loop .changed .words)
+    Going (n low) (rules low) (states low) (c .loop .words) (c .loop .next) (c .loop .changed .words)
     (c .loop .rounds)
-going c = c .loop .inv .2 _ (first (c .before))
+going c = c .loop .inv .2 _ (going-before (c .before))
 
 -- What a round works on.
 roundable : (c : tie.At-loop Inv-loop μ-loop)
@@ -144,7 +143,7 @@ roundable c =
     let l = low (c .before) in
     let p = begin l .pre .0 in
     record {
-      states = few l;
+      states = small l;
       rules = p .rules;
       targets = λ i h. targets l _ (rule-in _ _ i h);
       answering = p;
@@ -161,62 +160,45 @@ put-back-requires : tie.Need-put-back-requires Inv-loop μ-loop
 put-back-requires c κs =
     let r = c .before .before .before in
     let t = r .before .before .before .before .before .before in
-    (few (low (t .before)), (r .round .kept .1 .1 .1 .0 ∙ t .loop .inv .1, c .put-back-arg .given .0 .1))
+    (small (low (t .before)), (r .round .kept .1 .1 .1 .0 ∙ t .loop .inv .1, c .put-back-arg .given .0 .1))
 
--- The test of the loop: where it holds, the last round lost a pair, and there are fewer rounds than pairs.
-some : (c : tie.After-same Inv-loop μ-loop) → c .same .result ≡ sameSet (c .before .before .loop .changed .words) emptySet
-some c = c .same .ensures ∙ ap (sameSet (c .before .before .loop .changed .words)) (c .before .empty .ensures)
+-- The test of the loop: where it holds, the last round lost a pair, and there are rounds-left rounds than pairs.
+changed-is : (c : tie.After-same Inv-loop μ-loop) → c .same .result ≡ sameSet (c .before .before .loop .changed .words) emptySet
+changed-is c = c .same .ensures ∙ ap (sameSet (c .before .before .loop .changed .words)) (c .before .empty .ensures)
 
-fewer : (c : tie.Then1 Inv-loop μ-loop) → c .before .before .before .loop .rounds < 65536
-fewer c =
+rounds-left : (c : tie.Then1 Inv-loop μ-loop) → c .before .before .before .loop .rounds < 65536
+rounds-left c =
     let t = c .before .before .before in
     let l = low (t .before) in
-    let g = going t in
-    omega (
-      arith,
-      g .refined .fewer,
-      pairs-few (n l) (begin l .args .states .words) (few l),
-      loses-less (rules l) (g .last) (sym (g .lost) ∙ ap not (sym (some (c .before))) ∙ c .if1 .taken),
-    )
-
--- The set that the round leaves is one of four words.
-module _ (c : tie.After-round Inv-loop μ-loop) where
-  lost-four : length (c .round .result .words) ≡ 4
-  lost-four = search needs
-
-  lost-bounded : Bounded (c .round .result .words)
-  lost-bounded i =
-      let f : Fits w64 (getD (c .round .result .words) i 0) = search (needs, c .round .ok) in
-      f .fits
+    going-few (going t) (states-few (n l) (begin l .args .states .words) (small l)) (ap not (sym (changed-is (c .before))) ∙ c .if1 .taken)
 
 loop-again : tie.Need-loop-again Inv-loop μ-loop
 loop-again c =
     let r = c .before .before .before .before in
     let test = r .before .before .before in
     let t = test .before .before .before in
-    let l = low (t .before) in (
+    let l = low (t .before) in
+    let bounds : (i : ℕ) → Fits w64 (getD (r .round .result .words) i 0) = λ i. search (needs, r .round .ok) in (
       c .put-back .kept .1 .1 .1 .0 ∙ c .before .put-back-arg .given .0 .1,
       r .round .kept .1 .1 .1 .0 ∙ t .loop .inv .1,
-      λ R first.
-          let g = t .loop .inv .2 R first in
+      λ states g₀.
+          let g = t .loop .inv .2 states g₀ in
           going-next (n l) (rules l) (t .loop .words) (c .put-back .last .1 .1 .1 .0) (r .round .last .1 .1 .1 .0) (r .round .result .words)
-          (few l) (targets l) (r .round .ensures _ _ _ (roundable t) (g .quiet)) (c .put-back .ensures .0) (c .put-back .ensures .1)
-          R (t .loop .next) (t .loop .changed .words) (t .loop .rounds) (children l) (lost-four r) (lost-bounded r) g
-          (ap not (sym (some (test .before))) ∙ test .if1 .taken),
+          (small l) (targets l) (r .round .ensures _ _ _ (roundable t) (g .quiet)) (c .put-back .ensures .0) (c .put-back .ensures .1)
+          states (t .loop .next) (t .loop .changed .words) (t .loop .rounds) (children l) (search (needs, r .round .ok)) (λ i. bounds i .fits) g
+          (ap not (sym (changed-is (test .before))) ∙ test .if1 .taken),
     )
 
 returns : tie.Need-returns Inv-loop μ-loop
 returns c =
     let t = c .before .before .before in
-    let l = low (t .before) in
-    going-done (n l) (rules l) (states l) (t .loop .words) (t .loop .next) (t .loop .changed .words) (t .loop .rounds) (going t)
-    (ap not (sym (some (c .before))) ∙ c .if1 .left)
+    going-done (going t) (ap not (sym (changed-is (c .before))) ∙ c .if1 .left)
 
 add-rounds : tie.Need-add-rounds Inv-loop μ-loop
-add-rounds c = omega (arith, fewer (c .before .before .before .before .before .before .before))
+add-rounds c = omega (arith, rounds-left (c .before .before .before .before .before .before .before))
 
 loop-less : tie.Need-loop-less Inv-loop μ-loop
-loop-less c = omega (arith, fewer (c .before .before .before .before .before .before .before))
+loop-less c = omega (arith, rounds-left (c .before .before .before .before .before .before .before))
 
 pub simulate-spec : {M : Type 1} → statement M
 simulate-spec =

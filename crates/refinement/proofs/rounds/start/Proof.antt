@@ -1,4 +1,4 @@
--- `simulation::rounds::start` meets its contract: of the rows below the index those of the states are the states.
+-- Of the rows below the index those of the states are the states.
 use borrow.Author.Needs.{needs}
 use native.Mathlib.Omega.{arith}
 use Prim.Native.Nat.{ℕ, _+_, _*_, _-_, _≤_}

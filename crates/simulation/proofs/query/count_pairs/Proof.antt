@@ -19,15 +19,15 @@ loop-holds : tie.Need-loop-holds Inv-loop μ-loop
 unfolding onesOf
 loop-holds c = search needs
 
-few : (c : tie.After-count-ones Inv-loop μ-loop) → c .count-ones .result ≤ 64
-few c = rw (c .count-ones .ensures) (ones-few _)
+ones-most : (c : tie.After-count-ones Inv-loop μ-loop) → c .count-ones .result ≤ 64
+ones-most c = rw (c .count-ones .ensures) (ones-few _)
 
 loop-again : tie.Need-loop-again Inv-loop μ-loop
 unfolding onesOf
 loop-again c =
     let turn = c .before .before .before in (
       search needs,
-      omega (arith, few c),
+      omega (arith, ones-most c),
       rw add-one (ap₂ _+_ (turn .loop .inv .2) (c .count-ones .ensures)),
     )
 
@@ -40,4 +40,4 @@ pub count-pairs-spec : {M : Type 1} → statement M
 count-pairs-spec =
     tie.close
     (tie.spec Inv-loop μ-loop loop-holds (λ c. search needs) (λ c. search needs) (λ c. search needs) (λ c κs. search needs)
-    (λ c. omega (arith, few c)) (λ c. search needs) (λ c. search needs) loop-again returns)
+    (λ c. omega (arith, ones-most c)) (λ c. search needs) (λ c. search needs) loop-again returns)

@@ -1,12 +1,15 @@
 -- The index by target, and the simulation on all states with it.
-use mathlib.Core.Path.{_≡_}
+use mathlib.Core.Path.{_≡_, _∙_}
+use native.Mathlib.Omega.{arith}
 use borrow.Author.Needs.{needs}
+use borrow.Author.Tests.{lt-ltb}
 use Rattle.lists.specs.Lists.{from}
+use Rattle.lists.proofs.Keeping.{keep-all}
 use Rattle.sets.specs.Set.{statesIn}
 use Rattle.indexing.specs.Index.{keyOf}
 use Rattle.refinement.specs.Inner.{Answering}
 use Rattle.simulation.proofs.query.simulate_all.Tie as tie
-use Rattle.simulation.proofs.RelationBytes.{all-states-in}
+use Rattle.simulation.proofs.Preorder.{member-below}
 use Rattle.simulation.proofs.Queries.{target-below}
 use Rattle.simulation.proofs.query.simulate_all.Statement.{statement}
 
@@ -20,9 +23,13 @@ index-rules-requires c κs =
 all : (c : tie.After-all-states)
     → let size = c .before .before .before .before .before .before .before .args .size in
     statesIn (size .states) (c .all-states .result .words) ≡ from 0 (size .states)
+unfolding statesIn
 all c =
     let start = c .before .before .before .before .before .before .before in
-    rw (c .all-states .ensures) (all-states-in (start .args .size .states) (start .pre .0 .0))
+    let n = start .args .size .states in
+    keep-all _ (from 0 n) (λ q m.
+    let low = member-below n q m in
+    c .all-states .ensures q (omega (arith, start .pre .0 .0)) ∙ lt-ltb q n low)
 
 indexed : (c : tie.After-index-rules)
     → let args = c .before .before .before .before .args in
