@@ -11,10 +11,10 @@ use Rattle.indexing.specs.Index.{keyed}
 use Rattle.indexing.proofs.Indexing.{keyed-members, any-keyed}
 use Rattle.refinement.specs.Simulation.{Relation, matchedBy, matched}
 
-module _ (rows : List ℕ) (k r : ℕ) {numbers : List ℕ} (e : numbers ≡ keyed (λ (u : Rule). u .target) rows r 0 k) where
+module _ (rows : List ℕ) (k r : ℕ) {numbers : List ℕ} (e : numbers ≡ keyed (λ (u : Rule). u .target) rows r k) where
   pub keyed-rows : Rows rows k → (j : ℕ) → List·Memᴰ j numbers → Row rows j
   keyed-rows each j m =
-      let inside = keyed-members (λ (u : Rule). u .target) rows r 0 k j (rw e at m) in
+      let inside = keyed-members (λ (u : Rule). u .target) rows r k j (rw e at m) in
       each .row j (omega arith)
 
   pub keyed-matched : (R : Relation) (u : Rule) → any (λ (j : ℕ). matchedBy R u (ruleAt rows j)) numbers ≡ matched (rulesIn rows k) R r u

@@ -11,7 +11,8 @@ use lib.Dec.{eqb}
 use Rattle.lists.specs.Lists.{from, keep}
 use Rattle.lists.proofs.Keeping.{keep-append, keep-map, keep-both, keep-agree}
 use Rattle.lists.proofs.Ranges.{from-member, member-from}
-use Rattle.sets.specs.Set.{member, statesIn}
+use Rattle.sets.specs.Set.{member}
+use Rattle.sets.specs.Inner.{statesIn}
 use Rattle.sets.specs.Entries.{entryAt}
 use Rattle.sets.specs.Inner.{Has, Below}
 use Rattle.sets.proofs.EntrySets.{entry-at}

@@ -3,6 +3,7 @@ mod matching;
 mod rounds;
 
 // Exported for the crates above.
+pub use matching::Relation;
 pub use matching::has_match;
 pub use matching::has_pair;
 pub use matching::is_matched_by;

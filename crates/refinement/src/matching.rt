@@ -10,6 +10,11 @@ ghost use Rattle.refinement.specs.Inner.{relationIn};
 use automaton::children_of;
 use automaton::symbol_of;
 
+// The relation held flat.
+pub struct Relation {
+    pub words: [u64; 1024],
+}
+
 // Whether q is related to r.
 pub fn has_pair(words: &[u64; 1024], q: u8, r: u8) -> bool
     ensures { λ a. ⌜ a ≡ simulation.related (relationIn (now (words .entry))) q r ⌝ }

@@ -5,11 +5,12 @@ use mathlib.Core.Path.{_≡_, refl}
 use mathlib.Core.List.{List, [], _∷_, _++_}
 use lib.ListN.{replicate}
 use mathlib.Core.Bool.{true}
-use Rattle.lists.specs.Lists.{all, rising, risingFrom, from, keep, any}
+use Rattle.lists.specs.Lists.{all, rising, from, keep, any}
 use Rattle.records.specs.Bytes.{number2, number4, numbers, bytes2, bytes4, fields}
-use Rattle.records.specs.Record.{endOf, isWhole, opened, bodyIn, bodyOf, encodeRecord}
+use Rattle.records.specs.Record.{endOf, isWhole, opened, bodyOf, encodeRecord}
 use Rattle.records.specs.Read.{found, refused, _>>=_, _>>_, check}
-use Rattle.automaton.specs.Table.{dueIn, due, ruleIn, judgeRule, judgeRules, judgeFinals, judgeRanks, judge}
+use Rattle.automaton.specs.Table.{due, judgeRecord, sizeIn, judgeSize, judgeRanks, judgeFinals, ruleIn, judgeRule, judgeRules}
+use Rattle.automaton.specs.Table.{judgeFromFinals, judgeFromRanks, judge}
 use Rattle.trees.specs.Postfix.{treesIn, push, pushAll, single, isTreeRecord, judgeTree}
 use Rattle.refinement.specs.Simulation.{related, paired, matchedBy, matched, survives, refine, allPairs, relationAt, settle, rounds}
 use Rattle.refinement.specs.Simulation.{relation}
@@ -59,8 +60,8 @@ pub record Order : Type 0 where
 
 pub order : Order
 unfolding judgeTree isTreeRecord pushAll push single treesIn acceptance pairQuery relationQuery
-    judge judgeRanks judgeFinals judgeRules due dueIn opened isWhole endOf bodyOf bodyIn number2 number4 numbers
-    encodeRecord bytes2 bytes4 fields all rising risingFrom check _>>=_ _>>_
+    judge judgeFromRanks judgeFromFinals judgeRules judgeRecord judgeSize judgeRanks judgeFinals sizeIn due opened isWhole endOf bodyOf number2 number4 numbers
+    encodeRecord bytes2 bytes4 fields all rising check _>>=_ _>>_
 order = record {
   odd-body-before-symbol = refl;
   odd-body-before-node-limit = refl;
@@ -86,6 +87,6 @@ oneFinal =
 
 pub final-below-other : pairQuery oneFinal 0 1 ≡ found true
 unfolding pairQuery simulationOf relation relationAt rounds settle allPairs refine keep survives matched matchedBy paired related any from
-    judge judgeRanks judgeFinals judgeRules judgeRule ruleIn due dueIn opened isWhole endOf bodyOf bodyIn number2 number4 numbers
-    encodeRecord bytes2 bytes4 fields all rising risingFrom check _>>=_ _>>_
+    judge judgeFromRanks judgeFromFinals judgeRules judgeRecord judgeSize judgeRanks judgeFinals sizeIn judgeRule ruleIn due opened isWhole endOf bodyOf number2 number4 numbers
+    encodeRecord bytes2 bytes4 fields all rising check _>>=_ _>>_
 final-below-other = refl

@@ -14,9 +14,9 @@ use lib.Count.{ones, ones-step}
 use borrow.Author.Tests.{eq-eqb, ne-eqb, eqb-true, eqb-false}
 use Rattle.lists.specs.Lists.{from, keep}
 use Rattle.lists.specs.Over.{over}
-use Rattle.lists.proofs.Ranges.{from-step, length-from, from-append, keep-none}
+use Rattle.lists.proofs.Ranges.{from-step, length-from, from-append, each-from}
 use Rattle.lists.proofs.Overwriting.{over-then, kept-few}
-use Rattle.lists.proofs.Keeping.{keep-append, keep-map}
+use Rattle.lists.proofs.Keeping.{keep-none, keep-append, keep-map}
 use Rattle.sets.proofs.StateSets.{bit, bit-suc}
 use Rattle.refinement.specs.Simulation.{Relation, related}
 use Rattle.refinement.specs.Inner.{relationIn}
@@ -171,7 +171,7 @@ module _ (words : List ℕ) where
   columns-below (q ∷ qs) n h low =
       let all : n + (256 - n) ≡ 256 = omega arith in
       let few : length (keep (related R q) (from 0 256)) ≡ length (keep (related R q) (from 0 n)) + 0 =
-      rw (all, zero-add, keep-none (related R q) n (256 - n) (λ r l b. low q r l))
+      rw (all, zero-add, keep-none (related R q) (from n (256 - n)) (each-from _ n (256 - n) (λ r l b. low q r l)))
       at (length-keep-append (related R q) 0 n (256 - n)) in
       rw (few, add-zero, columns-below qs n h low)
 

@@ -24,6 +24,7 @@ use indexing::Key;
 use indexing::index_rules;
 use indexing::rules_of;
 use records::Refusal;
+use refinement::Relation;
 use refinement::has_match;
 use refinement::has_pair;
 use refinement::simulate;
@@ -124,12 +125,12 @@ pub fn relate(table: &[u8], out: &mut [u8]) -> Related
                 return Related::Refused(Refusal::ShortOutput);
             }
             let mut index: [u16; INDEX] = [0; INDEX];
-            let mut relation: [u64; 1024] = [0; 1024];
-            let rounds = simulate_all(size, &rows, &mut index, &mut relation);
-            put_rows(&relation, n, out);
+            let mut relation = Relation { words: [0; 1024] };
+            let rounds = simulate_all(size, &rows, &mut index, &mut relation.words);
+            put_rows(&relation.words, n, out);
             Related::Pairs {
                 rounds,
-                pairs: count_pairs(&relation, n),
+                pairs: count_pairs(&relation.words, n),
             }
         }
     }
@@ -138,8 +139,8 @@ pub fn relate(table: &[u8], out: &mut [u8]) -> Related
 // The number of the first rule of q that is matched by none of some rules; k where each is.
 fn first_unmatched(words: &[u64; 1024], rows: &[u8], k: usize, q: u8, numbers: &[u16]) -> usize
     requires { ⌜ Rows (now rows) k ⌝ }
-    requires { ⌜ ((r : ℕ) × (now numbers ≡ keyed (λ (u : Rule). u .target) (now rows) r 0 k)) ⌝ }
-    ensures { λ i. ⌜ ((r : ℕ) → now (numbers .entry) ≡ keyed (λ (u : Rule). u .target) (now (rows .entry)) r 0 k
+    requires { ⌜ ((r : ℕ) × (now numbers ≡ keyed (λ (u : Rule). u .target) (now rows) r k)) ⌝ }
+    ensures { λ i. ⌜ ((r : ℕ) → now (numbers .entry) ≡ keyed (λ (u : Rule). u .target) (now (rows .entry)) r k
         → FirstUnmatched (now (rows .entry)) k (relationIn (now (words .entry))) q r i) ⌝ }
 {
     let mut i: usize = 0;
@@ -160,13 +161,13 @@ fn compare_states(size: Size, rows: &[u8], q: u8, r: u8) -> Compared
         (simulation.relation (rulesIn (now (rows .entry)) (size .rules)) (from 0 (size .states))) q r a ⌝ }
 {
     let mut index: [u16; INDEX] = [0; INDEX];
-    let mut relation: [u64; 1024] = [0; 1024];
-    simulate_all(size, rows, &mut index, &mut relation);
-    if has_pair(&relation, q, r) {
+    let mut relation = Relation { words: [0; 1024] };
+    simulate_all(size, rows, &mut index, &mut relation.words);
+    if has_pair(&relation.words, q, r) {
         return Compared::Yes;
     }
     let numbers = rules_of(&index, r as usize);
-    Compared::Rule(first_unmatched(&relation, rows, size.rules, q, numbers))
+    Compared::Rule(first_unmatched(&relation.words, rows, size.rules, q, numbers))
 }
 
 // Whether state q is simulated by state r; if not, the number of the first rule of q that no rule of r matches.

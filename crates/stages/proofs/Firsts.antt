@@ -8,7 +8,7 @@ use mathlib.Core.List.{List, [], _∷_, map, List·Memᴰ, List·Memᴰ·head, L
 use mathlib.Core.Bool.{Bool, true, false, cond, not, _&&_, _||_, false≢true}
 use Rattle.lists.specs.Lists.{Distinct, bare, new, from, keep, any}
 use Rattle.lists.proofs.Keeping.{keep-both, keep-agree, keep-all, keep-in, keep-out}
-use Rattle.lists.proofs.Booleans.{not-in}
+use Rattle.lists.proofs.Booleans.{not-true-in}
 use Rattle.lists.proofs.Distinctness.{keep-distinct}
 use Rattle.lists.proofs.Ranges.{from-step}
 use Rattle.lists.proofs.Search.{any-append}
@@ -49,7 +49,7 @@ unfolding firsts
 firsts-same [] d = refl
 firsts-same (u ∷ us) (new h d) =
     ap (λ (vs : List Rule). u ∷ vs)
-    (rw (firsts-same us d) (keep-all (differs u) us (λ v m. not-in (λ e. h (Memᴰ·cast (same-rule-out u v e) m)))))
+    (rw (firsts-same us d) (keep-all (differs u) us (λ v m. not-true-in (λ e. h (Memᴰ·cast (same-rule-out u v e) m)))))
 
 -- The first ones by their places: those that no element before them is equal to.
 

@@ -9,7 +9,7 @@ use lib.Dec.{eqb}
 use borrow.Author.Tests.{eq-eqb, eqb-true, not-true}
 use Rattle.lists.proofs.Keeping.{keep-out}
 use Rattle.lists.proofs.Dominance.{kept-above}
-use Rattle.lists.proofs.Booleans.{and-true-in, and-true-out, and-false-right, never-true, not-in, not-out}
+use Rattle.lists.proofs.Booleans.{and-true-in, and-true-out, and-false-right, never-true, not-true-in, not-true-out}
 use Rattle.lists.proofs.Search.{any-in, any-out}
 use Rattle.automaton.specs.Automaton.{Rule}
 use Rattle.refinement.specs.Simulation.{Each, none, also, Matched, Simulates, Relation, paired, matchedBy}
@@ -37,7 +37,7 @@ dominated-out R u v h =
       target = eqb-true (u .target) (v .target) (a .0);
       symbol = eqb-true (u .symbol) (v .symbol) (c .0);
       children = paired-each R (u .children) (v .children) (c .1);
-      differ = λ e. not-out {t = sameStates (u .children) (v .children)} (b .1) (rw e (same-states-refl (v .children)));
+      differ = λ e. not-true-out {t = sameStates (u .children) (v .children)} (b .1) (rw e (same-states-refl (v .children)));
     }
 
 pub dominated-in : (R : Relation) (u v : Rule) → DominatedBy R u v → dominatedBy R u v ≡ true
@@ -45,7 +45,7 @@ unfolding dominatedBy matchedBy
 dominated-in R u v d =
     and-true-in (eq-eqb (u .target) (v .target) (d .target))
     (and-true-in (and-true-in (eq-eqb (u .symbol) (v .symbol) (d .symbol)) (each-paired R (d .children)))
-    (not-in (λ e. d .differ (same-states-out (u .children) (v .children) e))))
+    (not-true-in (λ e. d .differ (same-states-out (u .children) (v .children) e))))
 
 dominated-self : (R : Relation) (u : Rule) → dominatedBy R u u ≡ false
 unfolding dominatedBy

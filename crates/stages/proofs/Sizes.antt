@@ -11,7 +11,7 @@ use borrow.Author.Tests.{eq-eqb, eqb-true, ne-eqb}
 use Rattle.lists.specs.Lists.{Rising, from, keep, among}
 use Rattle.lists.proofs.Ranges.{length-from}
 use Rattle.lists.proofs.Keeping.{keep-out, keep-all, keep-shorter}
-use Rattle.lists.proofs.Booleans.{not-out}
+use Rattle.lists.proofs.Booleans.{not-true-out}
 use Rattle.lists.proofs.Elements.{all-member, all-mapped}
 use Rattle.lists.proofs.Rising.{rising-rest, rising-above, rising-keep}
 use Rattle.records.proofs.Fields.{length-fields}
@@ -66,7 +66,7 @@ rising-few (y ∷ ys) {xs} r inside =
     omega (arith, fewer, all-but-one y r)
   where
     later : (q : ℕ) → not (eqb y q) ≡ true → List·Memᴰ q (y ∷ ys) → List·Memᴰ q ys
-    later q e (List·Memᴰ·head f) = absurd (not-out e (eq-eqb y q (sym f)))
+    later q e (List·Memᴰ·head f) = absurd (not-true-out e (eq-eqb y q (sym f)))
     later q e (List·Memᴰ·tail m) = m
 
 -- Rules that are no more than others, and no longer in bytes.

@@ -7,14 +7,14 @@ use mathlib.Core.List.{List, [], _∷_, List·Memᴰ, List·Memᴰ·head, List·
 use lib.ListN.{length}
 use Rattle.lists.proofs.Elements.{all-member}
 use Rattle.automaton.specs.Automaton.{Rule, Automaton, WellFormed, WellFormedRule}
-use Rattle.trees.specs.Tree.{Tree, width, Over, AllOver}
+use Rattle.trees.specs.Tree.{Tree, arityOf, Over, AllOver}
 use Rattle.trees.specs.Run.{Run, Runs, at, none, also, root, roots, treeOf, treesOf, IsRun, AreRuns, Reaches, Occurs, OccursIn, Useful}
 
 -- The tree of a run is one over the symbols of a well-formed automaton.
-width-roots : (rs : Runs) → width (treesOf rs) ≡ length (roots rs)
-unfolding width treesOf roots
-width-roots none = refl
-width-roots (also r rs) = ap suc (width-roots rs)
+arity-roots : (rs : Runs) → arityOf (treesOf rs) ≡ length (roots rs)
+unfolding arityOf treesOf roots
+arity-roots none = refl
+arity-roots (also r rs) = ap suc (arity-roots rs)
 
 module _ (A : Automaton) (w : WellFormed A) where
   mutual
@@ -25,7 +25,7 @@ module _ (A : Automaton) (w : WellFormed A) where
         let u = h .0 in
         let wf : WellFormedRule A (u .rule) = all-member (w .rules) (u .is-rule) in (
           rw (u .symbol) at (wf .symbol),
-          width-roots rs ∙ ap length (sym (u .children)) ∙ rw (u .symbol) at (wf .arity),
+          arity-roots rs ∙ ap length (sym (u .children)) ∙ rw (u .symbol) at (wf .arity),
           runs-over rs (h .1),
         )
 

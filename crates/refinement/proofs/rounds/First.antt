@@ -13,7 +13,8 @@ use Rattle.lists.proofs.Keeping.{keep-out}
 use Rattle.lists.proofs.Ranges.{member-from}
 use Rattle.lists.proofs.Booleans.{and-true-in, and-true-out, and-false-left, and-false-right}
 use Rattle.lists.proofs.Search.{any-agree, all-agree}
-use Rattle.sets.specs.Set.{member, sameSet, statesIn}
+use Rattle.sets.specs.Set.{member, sameSet}
+use Rattle.sets.specs.Inner.{statesIn}
 use Rattle.sets.specs.Entries.{entryAt}
 use Rattle.sets.specs.Inner.{Has, Below}
 use Rattle.sets.proofs.StateSets.{same-set-out, Bounded, sets-differ}

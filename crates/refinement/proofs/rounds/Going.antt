@@ -15,7 +15,8 @@ use Rattle.lists.proofs.Overwriting.{kept-few}
 use Rattle.lists.proofs.Ranges.{member-from}
 use Rattle.lists.proofs.Booleans.{and-false-left, and-false-right, and-same, never-true}
 use Rattle.lists.proofs.Search.{any-none-out, any-agree, all-in, all-out}
-use Rattle.sets.specs.Set.{member, emptySet, sameSet, withAll, setOf, statesIn}
+use Rattle.sets.specs.Set.{member, emptySet, sameSet}
+use Rattle.sets.specs.Inner.{withAll, setOf, statesIn}
 use Rattle.sets.specs.Entries.{entryAt}
 use Rattle.sets.specs.Inner.{Has, Below}
 use Rattle.sets.proofs.StateSets.{member-empty, length-setOf, same-set-out, Bounded, bounded-setOf, sets-differ}

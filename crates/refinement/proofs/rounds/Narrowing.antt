@@ -18,7 +18,8 @@ use Rattle.sets.specs.Set.{member, words, replaced, withoutState}
 use Rattle.sets.specs.Entries.{entryAt}
 use Rattle.sets.specs.Inner.{Has}
 use Rattle.sets.proofs.StateSets.{bit, bit-suc, member-without}
-use Rattle.sets.proofs.EntrySets.{over-length, entry-put}
+use Rattle.lists.proofs.Overwriting.{over-length}
+use Rattle.sets.proofs.EntrySets.{entry-put}
 
 -- The states below n are those that pass a test; whether a state was taken out.
 pub record Narrowed (test : ℕ → Bool) (first : List ℕ) (n : ℕ) (row : List ℕ) (lost : Bool) : Type 0 where

@@ -2,7 +2,7 @@
 -- arrays is one that evaluation works on. For `accept_tree` and the functions under it.
 use Prim.Native.Nat.{ℕ, _/_, _≤_, _<_}
 use native.Mathlib.Omega.{arith}
-use mathlib.Core.Path.{_≡_, refl, sym, ap, fun-ext, _∙_}
+use mathlib.Core.Path.{_≡_, refl, sym, ap, _∙_}
 use mathlib.Core.List.{List, [], _∷_, List·Memᴰ}
 use mathlib.Core.Bool.{Bool, true, false}
 use lib.ListN.{length, take}
@@ -13,7 +13,8 @@ use Rattle.lists.proofs.Keeping.{keep-in, keep-out}
 use Rattle.lists.proofs.Ranges.{from-member, member-from}
 use Rattle.lists.proofs.Booleans.{and-true-out, same-bool}
 use Rattle.lists.proofs.Search.{Found, any-in, any-out, any-agree}
-use Rattle.sets.specs.Set.{member, statesIn}
+use Rattle.sets.specs.Set.{member}
+use Rattle.sets.specs.Inner.{statesIn}
 use Rattle.sets.specs.Entries.{entryAt}
 use Rattle.records.specs.Bytes.{numbers}
 use Rattle.records.specs.Record.{opened, bodyOf}
@@ -108,9 +109,7 @@ module _ (A : Automaton) (b : List ℕ) where
     tree-of-nodes h finals same =
         let few : length (numbers body) ≤ 16384 = omega (arith, length-numbers body) in
         rw (t, ← is, le-leb (length (numbers body)) 16384 few)
-        (bind-bind _ single _
-        ∙ ap (λ (g : Tree → Read Bool). pushAll (A .ranks) [] (numbers body) >>= (λ (stack : List Tree). single stack >>= g))
-        (fun-ext (λ t. ap found (sym (same t)))))
+        (bind-bind _ single _ _ (λ t. ap found (sym (same t))))
 
 -- A well-formed automaton in arrays.
 module _ (size : Size) (finals ranks rows : List ℕ) (wf : WellFormed (automatonIn size finals ranks rows)) where

@@ -9,7 +9,8 @@ use mathlib.Core.Bool.{not}
 use lib.ListN.{length, getD, replicate, getD-replicate}
 use mir.Syntax.{w64}
 use mir.Val.{Fits}
-use Rattle.sets.specs.Set.{emptySet, sameSet, words, statesIn}
+use Rattle.sets.specs.Set.{emptySet, sameSet, words}
+use Rattle.sets.specs.Inner.{statesIn}
 use Rattle.sets.specs.Inner.{Below}
 use Rattle.sets.proofs.StateSets.{states-below, states-low}
 use Rattle.automaton.specs.Automaton.{Rule}

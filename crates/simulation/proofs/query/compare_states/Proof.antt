@@ -49,7 +49,7 @@ rules-of-requires c κs =
 
 numbers-are : (s : tie.After-rules-of)
     → let args = start (made (s .before .before .before)) .args in
-    s .rules-of .result .now ≡ keyed (λ (u : Rule). u .target) (args .rows .now) (args .r) 0 (args .size .rules)
+    s .rules-of .result .now ≡ keyed (λ (u : Rule). u .target) (args .rows .now) (args .r) (args .size .rules)
 numbers-are s =
     let m = made (s .before .before .before) in
     s .rules-of .ensures ∙ m .simulate-all .ensures .1 .1 .index-is .numbers (start m .args .r) (omega arith)

@@ -18,7 +18,7 @@ use Rattle.simulation.proofs.query.first_unmatched.Tie as tie
 use Rattle.simulation.proofs.query.first_unmatched.Statement.{statement}
 
 abbrev Inv-loop : tie.InvT-loop
-Inv-loop words rows k q numbers i₀ i = (i ≤ k) × ((r : ℕ) → numbers ≡ keyed (λ (u : Rule). u .target) rows r 0 k
+Inv-loop words rows k q numbers i₀ i = (i ≤ k) × ((r : ℕ) → numbers ≡ keyed (λ (u : Rule). u .target) rows r k
     → (j : ℕ) → j < i → answered (rulesIn rows k) (relationIn words) q r (ruleAt rows j) ≡ true)
 
 abbrev μ-loop : tie.MeasureT-loop

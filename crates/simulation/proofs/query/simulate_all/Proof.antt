@@ -5,7 +5,7 @@ use borrow.Author.Needs.{needs}
 use borrow.Author.Tests.{lt-ltb}
 use Rattle.lists.specs.Lists.{from}
 use Rattle.lists.proofs.Keeping.{keep-all}
-use Rattle.sets.specs.Set.{statesIn}
+use Rattle.sets.specs.Inner.{statesIn}
 use Rattle.indexing.specs.Index.{keyOf}
 use Rattle.refinement.specs.Inner.{Answering}
 use Rattle.simulation.proofs.query.simulate_all.Tie as tie

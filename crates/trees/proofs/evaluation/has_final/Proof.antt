@@ -6,7 +6,8 @@ use mir.Syntax.{w64}
 use mir.Val.{Fits}
 use lib.ListN.{getD}
 use denote.Ref.{now}
-use Rattle.sets.specs.Set.{meetOf, statesIn}
+use Rattle.sets.specs.Set.{meetOf}
+use Rattle.sets.specs.Inner.{statesIn}
 use Rattle.sets.specs.Entries.{entryAt}
 use Rattle.sets.proofs.StateSets.{common-state}
 use Rattle.trees.proofs.evaluation.has_final.Tie as tie
