@@ -1,13 +1,14 @@
 // New names of states: of each the representative of its block (document 01: "group"), and of each kept state its number.
 ghost use mathlib.Core.Path.{_≡_};
-ghost use mathlib.Core.Bool.{true, _&&_};
+ghost use mathlib.Core.Bool.{true};
 ghost use Prim.Native.Nat.{ℕ, _≤_, _<_};
 ghost use lib.ListN.{length};
 ghost use lib.Dec.{eqb};
-ghost use Rattle.lists.specs.Lists.{from, keep, any};
-ghost use Rattle.sets.specs.Set.{member, statesIn};
+ghost use Rattle.lists.specs.Lists.{from, any};
+ghost use Rattle.sets.specs.Set.{member};
+ghost use Rattle.sets.specs.Inner.{statesIn};
 ghost use Rattle.sets.specs.Inner.{Has};
-ghost use Rattle.refinement.specs.Words.{relationIn};
+ghost use Rattle.refinement.specs.Inner.{relationIn};
 ghost use Rattle.stages.specs.Steps.{equivalent, firstOf, position};
 ghost use Rattle.reduction.specs.Inner.{nameIn};
 use refinement::has_pair;
@@ -63,19 +64,16 @@ pub fn number_states(set: StateSet, n: usize, names: &mut [u8]) -> usize
     count
 }
 
-// The new names of the states below n that are in both sets.
-pub fn rename_set(set: StateSet, within: StateSet, n: usize, names: &[u8]) -> StateSet
+// The new names of the states below n that are in a set.
+pub fn rename_set(set: StateSet, n: usize, names: &[u8]) -> StateSet
     requires { ⌜ (n ≤ 256) × (n ≤ length (now names)) ⌝ }
-    ensures { λ s. ⌜ Has (s .words) (λ (r : ℕ). any (λ (q : ℕ). eqb (nameIn (now (names .entry)) q) r)
-        (keep (λ (q : ℕ). member (set .words) q && member (within .words) q) (from 0 n))) ⌝ }
+    ensures { λ s. ⌜ Has (s .words) (λ (r : ℕ). any (λ (q : ℕ). eqb (nameIn (now (names .entry)) q) r) (statesIn n (set .words))) ⌝ }
 {
     let mut renamed = StateSet::empty();
     let mut q: usize = 0;
     while q < n {
         if set.has(q as u8) {
-            if within.has(q as u8) {
-                renamed = renamed.with(names[q]);
-            }
+            renamed = renamed.with(names[q]);
         }
         q += 1;
     }

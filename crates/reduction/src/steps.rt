@@ -3,60 +3,54 @@ ghost use mathlib.Core.Path.{_≡_};
 ghost use mathlib.Core.List.{List, map};
 ghost use Prim.Native.Nat.{ℕ, _≤_, _<_};
 ghost use lib.ListN.{length, getD};
-ghost use Rattle.lists.specs.Lists.{among};
-ghost use Rattle.sets.specs.Set.{statesIn};
+ghost use Rattle.lists.specs.Lists.{keep, among};
+ghost use Rattle.sets.specs.Inner.{statesIn};
 ghost use Rattle.sets.specs.Inner.{Has};
-ghost use Rattle.automaton.specs.Automaton.{Automaton, WellFormed, renamed};
+ghost use Rattle.automaton.specs.Automaton.{WellFormed, renamed};
 ghost use Rattle.automaton.specs.Row.{ruleAt, rulesIn, Rows};
 ghost use Rattle.automaton.specs.Decoded.{automatonIn};
 ghost use Rattle.refinement.specs.Simulation as simulation;
-ghost use Rattle.refinement.specs.Words.{relationIn};
+ghost use Rattle.refinement.specs.Inner.{relationIn};
 ghost use Rattle.refinement.specs.Inner.{Simulable};
-ghost use Rattle.stages.specs.Steps.{Stage, productive, trimmed, below, quotient, pruned, kept, restricted, position, reduce, reductionRounds};
-ghost use Rattle.stages.specs.Steps.{shortened};
+ghost use Rattle.stages.specs.Steps.{Stage, closure, namesOnly, below, quotient, pruned, shortened, position, reduce, reductionRounds};
 ghost use Rattle.stages.specs.Inner.{Sound};
-ghost use Rattle.reduction.specs.Inner.{stageIn};
+ghost use Rattle.reduction.specs.Inner.{Holds, grows};
 use crate::blocks::name_blocks;
 use crate::blocks::number_states;
 use crate::blocks::rename_set;
-use crate::growth::productive;
-use crate::growth::reachable;
-use crate::marking::mark_firsts;
+use crate::growth::Way;
+use crate::growth::grow;
+use crate::marking::Why;
 use crate::marking::mark_named;
-use crate::marking::mark_targets;
-use crate::marking::mark_undominated;
+use crate::marking::mark_staying;
 use crate::rows::compact;
 use crate::rows::rename_rules;
 use automaton::Size;
 use indexing::INDEX;
 use indexing::Key;
 use indexing::index_rules;
-use refinement::Relation;
 use refinement::simulate;
 use sets::StateSet;
 
-// What step 1 leaves: the productive states, and how many rules.
-pub struct Trimmed {
-    pub productive: StateSet,
+// What steps 1 and 5 leave: the states, and how many rules.
+pub struct Kept {
+    pub states: StateSet,
     pub rules: usize,
 }
 
-// Step 1: drops states to which no tree belongs, and each rule that names one.
-fn trim(rows: &mut [u8], k: usize) -> Trimmed
+// Steps 1 and 5: lets a set of states grow, and drops each rule that names a state outside it.
+fn keep_grown(start: StateSet, way: Way, rows: &mut [u8], k: usize) -> Kept
     requires { ⌜ Rows (now rows) k ⌝ }
     ensures { λ r. ⌜ Rows (now (rows .exit)) (r .rules) ⌝ }
-    ensures { λ r. ⌜ ((A : Automaton) → WellFormed A → rulesIn (now (rows .entry)) k ≡ A .rules
-        → Has (r .productive .words) (among (productive A))
-        × (rulesIn (now (rows .exit)) (r .rules) ≡ trimmed A .rules)) ⌝ }
+    ensures { λ r. ⌜ ((S : Stage) → Sound S → rulesIn (now (rows .entry)) k ≡ S .rules → Has (start .words) (among (S .finals))
+        → Has (r .states .words) (among (closure (grows way S) (S .states)))
+        × (rulesIn (now (rows .exit)) (r .rules) ≡ keep (namesOnly (closure (grows way S) (S .states))) (S .rules))) ⌝ }
 {
-    let states = productive(rows, k);
+    let states = grow(start, way, rows, k);
     let mut marks: [bool; 1024] = [false; 1024];
     mark_named(states, rows, k, &mut marks);
     let rules = compact(rows, k, &marks);
-    Trimmed {
-        productive: states,
-        rules,
-    }
+    Kept { states, rules }
 }
 
 // What step 3 leaves: the representatives of final states, and how many rules.
@@ -67,30 +61,21 @@ pub struct Grouped {
 
 // Step 3: groups equivalent states under their representatives; of equal rules the first stays. Returns the final
 // representatives and how many rules are left.
-fn group(
-    words: &[u64; 1024],
-    states: StateSet,
-    finals: StateSet,
-    n: usize,
-    rows: &mut [u8],
-    k: usize,
-) -> Grouped
+fn group(words: &[u64; 1024], finals: StateSet, n: usize, rows: &mut [u8], k: usize) -> Grouped
     requires { ⌜ (n ≤ 256) × Rows (now rows) k ⌝ }
-    requires { ⌜ Sound (stageIn n (states .words) (finals .words) (now rows) k) ⌝ }
-    requires { ⌜ relationIn (now words) ≡ below (stageIn n (states .words) (finals .words) (now rows) k) ⌝ }
+    requires { ⌜ ((S : Stage) × (Holds S n (finals .words) (now rows) k × (relationIn (now words) ≡ below S))) ⌝ }
     ensures { λ r. ⌜ Rows (now (rows .exit)) (r .rules) ⌝ }
-    ensures { λ r. ⌜ ((S : Stage) → S ≡ stageIn n (states .words) (finals .words) (now (rows .entry)) k
-        → Has (r .finals .words) (among (quotient (below S) S .finals))
-        × (rulesIn (now (rows .exit)) (r .rules) ≡ quotient (below S) S .rules)) ⌝ }
+    ensures { λ r. ⌜ ((S : Stage) → Holds S n (finals .words) (now (rows .entry)) k → relationIn (now (words .entry)) ≡ below S
+        → Holds (quotient (below S) S) n (r .finals .words) (now (rows .exit)) (r .rules)) ⌝ }
 {
     let mut names: [u8; 256] = [0; 256];
     name_blocks(words, n, &mut names);
     rename_rules(rows, k, &names);
     let mut marks: [bool; 1024] = [false; 1024];
-    mark_firsts(rows, k, n, &mut marks);
+    mark_staying(words, rows, k, n, Why::Repeated, &mut marks);
     let rules = compact(rows, k, &marks);
     Grouped {
-        finals: rename_set(finals, states, n, &names),
+        finals: rename_set(finals, n, &names),
         rules,
     }
 }
@@ -104,33 +89,8 @@ fn prune(words: &[u64; 1024], n: usize, rows: &mut [u8], k: usize) -> usize
         → rulesIn (now (rows .exit)) r ≡ pruned (relationIn (now (words .entry))) S .rules) ⌝ }
 {
     let mut marks: [bool; 1024] = [false; 1024];
-    mark_undominated(words, rows, k, n, &mut marks);
+    mark_staying(words, rows, k, n, Why::Dominated, &mut marks);
     compact(rows, k, &marks)
-}
-
-// What step 5 leaves: the kept states, and how many rules.
-pub struct Restricted {
-    pub kept: StateSet,
-    pub rules: usize,
-}
-
-// Step 5: keeps final states and, repeatedly, the children of rules whose target is kept.
-fn restrict(finals: StateSet, rows: &mut [u8], k: usize) -> Restricted
-    requires { ⌜ Rows (now rows) k ⌝ }
-    ensures { λ r. ⌜ Rows (now (rows .exit)) (r .rules) ⌝ }
-    ensures { λ r. ⌜ ((S : Stage) → Sound S → Has (finals .words) (among (S .finals))
-        → rulesIn (now (rows .entry)) k ≡ S .rules
-        → Has (r .kept .words) (among (kept S))
-        × (rulesIn (now (rows .exit)) (r .rules) ≡ restricted S .rules)) ⌝ }
-{
-    let states = reachable(finals, rows, k);
-    let mut marks: [bool; 1024] = [false; 1024];
-    mark_targets(states, rows, k, &mut marks);
-    let rules = compact(rows, k, &marks);
-    Restricted {
-        kept: states,
-        rules,
-    }
 }
 
 // How many states are kept, and the final ones among them by their new numbers.
@@ -154,53 +114,39 @@ fn renumber(states: StateSet, finals: StateSet, n: usize, rows: &mut [u8], k: us
     rename_rules(rows, k, &names);
     Numbered {
         states: count,
-        finals: rename_set(finals, states, n, &names),
+        finals: rename_set(finals, n, &names),
     }
 }
 
-// A reduced table in arrays: its counts and final states, and the rounds of step 2.
-pub struct Short {
-    pub size: Size,
+// What steps 3 to 6 leave: how many states and rules, and the final states.
+pub struct Shortened {
+    pub states: usize,
+    pub rules: usize,
     pub finals: StateSet,
-    pub rounds: usize,
 }
 
-// Steps 3 to 6, on what step 1 leaves of the states and step 2 found.
-fn shorten(
-    words: &[u64; 1024],
-    states: StateSet,
-    finals: StateSet,
-    size: Size,
-    rows: &mut [u8],
-    rounds: usize,
-) -> Short
-    requires { ⌜ (size .states ≤ 256) × Rows (now rows) (size .rules) ⌝ }
-    requires { ⌜ Sound (stageIn (size .states) (states .words) (finals .words) (now rows) (size .rules)) ⌝ }
-    requires { ⌜ relationIn (now words) ≡ below (stageIn (size .states) (states .words) (finals .words) (now rows) (size .rules)) ⌝ }
-    ensures { λ r. ⌜ (r .rounds ≡ rounds) × (r .size .symbols ≡ size .symbols) ⌝ }
-    ensures { λ r. ⌜ Rows (now (rows .exit)) (r .size .rules) ⌝ }
-    ensures { λ r. ⌜ ((S : Stage) → S ≡ stageIn (size .states) (states .words) (finals .words) (now (rows .entry)) (size .rules)
-        → (r .size .states ≡ length (shortened S .states))
-        × ((statesIn (r .size .states) (r .finals .words) ≡ map (position (shortened S .states)) (shortened S .finals))
-        × (rulesIn (now (rows .exit)) (r .size .rules) ≡ map (renamed (position (shortened S .states))) (shortened S .rules)))) ⌝ }
+// Steps 3 to 6, on what step 1 leaves and the relation that step 2 found.
+fn shorten(words: &[u64; 1024], finals: StateSet, n: usize, rows: &mut [u8], k: usize) -> Shortened
+    requires { ⌜ (n ≤ 256) × Rows (now rows) k ⌝ }
+    requires { ⌜ ((S : Stage) × (Holds S n (finals .words) (now rows) k × (relationIn (now words) ≡ below S))) ⌝ }
+    ensures { λ r. ⌜ Rows (now (rows .exit)) (r .rules) ⌝ }
+    ensures { λ r. ⌜ ((S : Stage) → Holds S n (finals .words) (now (rows .entry)) k → relationIn (now (words .entry)) ≡ below S
+        → (r .states ≡ length (shortened S .states))
+        × ((statesIn (r .states) (r .finals .words) ≡ map (position (shortened S .states)) (shortened S .finals))
+        × (rulesIn (now (rows .exit)) (r .rules) ≡ map (renamed (position (shortened S .states))) (shortened S .rules)))) ⌝ }
 {
-    let n = size.states;
-    let grouped = group(words, states, finals, n, rows, size.rules);
+    let grouped = group(words, finals, n, rows, k);
     let blocks = grouped.finals;
     let undominated = prune(words, n, rows, grouped.rules);
-    let reached = restrict(blocks, rows, undominated);
-    let kept = reached.kept;
-    let rules = reached.rules;
-    let numbered = renumber(kept, blocks, n, rows, rules);
+    let kept = keep_grown(blocks, Way::Down, rows, undominated);
+    let reached = kept.states;
+    let rules = kept.rules;
+    let numbered = renumber(reached, blocks, n, rows, rules);
     let left = numbered.finals;
-    Short {
-        size: Size {
-            states: numbered.states,
-            symbols: size.symbols,
-            rules,
-        },
+    Shortened {
+        states: numbered.states,
+        rules,
         finals: left,
-        rounds,
     }
 }
 
@@ -219,6 +165,13 @@ fn simulate_left(states: StateSet, size: Size, rows: &[u8], words: &mut [u64; 10
     simulate(states, size, rows, &index, words)
 }
 
+// A reduced table in arrays: its counts and final states, and the rounds of step 2.
+pub struct Short {
+    pub size: Size,
+    pub finals: StateSet,
+    pub rounds: usize,
+}
+
 // All six steps, on a decoded table.
 pub fn reduce_rows(size: Size, finals: StateSet, rows: &mut [u8]) -> Short
     requires { ⌜ Rows (now rows) (size .rules) ⌝ }
@@ -229,18 +182,25 @@ pub fn reduce_rows(size: Size, finals: StateSet, rows: &mut [u8]) -> Short
         × (r .rounds ≡ reductionRounds (automatonIn size (finals .words) ranks (now (rows .entry))))) ⌝ }
     ensures { λ r. ⌜ Rows (now (rows .exit)) (r .size .rules) × (r .size .symbols ≡ size .symbols) ⌝ }
 {
-    let trimmed = trim(rows, size.rules);
-    let states = trimmed.productive;
+    let trimmed = keep_grown(StateSet::empty(), Way::Up, rows, size.rules);
+    let states = trimmed.states;
     let left = Size {
         states: size.states,
         symbols: size.symbols,
         rules: trimmed.rules,
     };
-    let mut relation = Relation {
-        words: [0; 1024],
-        rounds: 0,
+    let mut words: [u64; 1024] = [0; 1024];
+    let rounds = simulate_left(states, left, rows, &mut words);
+    let short = shorten(&words, finals.meet(states), left.states, rows, left.rules);
+    let reduced = Size {
+        states: short.states,
+        symbols: size.symbols,
+        rules: short.rules,
     };
-    let rounds = simulate_left(states, left, rows, &mut relation.words);
-    relation.rounds = rounds;
-    shorten(&relation.words, states, finals, left, rows, rounds)
+    let last = short.finals;
+    Short {
+        size: reduced,
+        finals: last,
+        rounds,
+    }
 }

@@ -6,13 +6,14 @@ use mathlib.Core.Logic.{_⊎_, _↔_}
 use mathlib.Core.List.{List, [], _∷_, _++_}
 use mathlib.Core.Bool.{true, false}
 use lib.ListN.{length, drop}
-use Rattle.lists.specs.Lists.{all, rising, risingFrom, from, keep, any, among}
+use Rattle.lists.specs.Lists.{all, rising, from, keep, any, among}
 use Rattle.records.specs.Read.{found, refused, _>>=_, _>>_, check}
 use Rattle.records.specs.Bytes.{number2, number4, numbers, bytes2, bytes4, fields}
-use Rattle.records.specs.Record.{endOf, isWhole, opened, bodyIn, bodyOf, encodeRecord}
+use Rattle.records.specs.Record.{endOf, isWhole, opened, bodyOf, encodeRecord}
 use Rattle.records.proofs.Buffers.{room-enough, room-short}
 use Rattle.automaton.specs.Automaton.{Automaton, renamed}
-use Rattle.automaton.specs.Table.{dueIn, due, ruleIn, judgeRule, judgeRules, judgeFinals, judgeRanks, judge, encodeRule, encodeRules}
+use Rattle.automaton.specs.Table.{due, judgeRecord, sizeIn, judgeSize, judgeRanks, judgeFinals, ruleIn, judgeRule, judgeRules}
+use Rattle.automaton.specs.Table.{judgeFromFinals, judgeFromRanks, judge, encodeRule, encodeRules}
 use Rattle.automaton.specs.Table.{encode}
 use Rattle.automaton.specs.Decoded.{sizeOf}
 use Rattle.automaton.proofs.Examples.{T}
@@ -87,8 +88,8 @@ unfolding encode encodeRules encodeRule encodeRecord fields bytes2 bytes4
 tableT-encoded = refl
 
 pub tableT-judged : judge tableT ≡ found T
-unfolding judge judgeRanks judgeFinals judgeRules judgeRule
-    ruleIn due dueIn opened isWhole endOf bodyIn bodyOf number2 number4 numbers all rising risingFrom _>>=_ _>>_ check
+unfolding judge judgeFromRanks judgeFromFinals judgeRules judgeRecord judgeSize judgeRanks judgeFinals sizeIn judgeRule
+    ruleIn due opened isWhole endOf bodyOf number2 number4 numbers all rising _>>=_ _>>_ check
 tableT-judged = refl
 
 -- `reduced`, `states 5 2`, `rules 8 3` and `rounds 1`, a line each.
@@ -153,8 +154,8 @@ unfolding reduce reductionRounds shortened numbered position restricted kept nee
     encode encodeRules encodeRule encodeRecord bytes2 bytes4 fields
     simulationOf roundsOf relationBytes relationRows rowBytes bitsFrom unmatchedNumbers unmatchedFirst NamesOne
     pairQuery acceptance accepts belongs judgeTree isTreeRecord pushAll push single treesIn
-    judge judgeRanks judgeFinals judgeRules judgeRule ruleIn due dueIn opened isWhole endOf bodyIn bodyOf number2 number4 numbers
-    all rising risingFrom _>>=_ _>>_ check
+    judge judgeFromRanks judgeFromFinals judgeRules judgeRecord judgeSize judgeRanks judgeFinals sizeIn judgeRule ruleIn due opened isWhole endOf bodyOf number2 number4 numbers
+    all rising _>>=_ _>>_ check
     reportOf report line numbersIn decimal decimalIn reducedWord statesWord rulesWord roundsWord
 bench = record {
   B1 = reduces-to tableT T tableT-judged;
@@ -174,11 +175,11 @@ bench = record {
 
 -- Zero bytes: `refused 2`.
 pub report-on-nothing : report [] ≡ 114 ∷ 101 ∷ 102 ∷ 117 ∷ 115 ∷ 101 ∷ 100 ∷ 32 ∷ 50 ∷ 10 ∷ []
-unfolding report reportOf line numbersIn decimal decimalIn refusedWord judge due dueIn opened _>>=_
+unfolding report reportOf line numbersIn decimal decimalIn refusedWord judge judgeRecord due opened _>>=_
 report-on-nothing = refl
 
 -- The table's cause comes before 13: T with a byte after it, and no room at all.
 pub table-before-output : reduction (tableT ++ (0 ∷ [])) [] ≡ refused 1
-unfolding reduction judge judgeRanks judgeFinals judgeRules judgeRule ruleIn due dueIn opened isWhole endOf bodyIn bodyOf
-    number2 number4 numbers all rising risingFrom _>>=_ _>>_ check
+unfolding reduction judge judgeFromRanks judgeFromFinals judgeRules judgeRecord judgeSize judgeRanks judgeFinals sizeIn judgeRule ruleIn due opened isWhole endOf bodyOf
+    number2 number4 numbers all rising _>>=_ _>>_ check
 table-before-output = refl

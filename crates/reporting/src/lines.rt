@@ -1,12 +1,12 @@
 // The report on a table: what reducing it does, or why it is refused, in lines of text.
 ghost use mathlib.Core.Path.{_≡_};
-ghost use mathlib.Core.List.{[], _∷_, _++_};
-ghost use Prim.Native.Nat.{_+_, _≤_, _<_};
+ghost use mathlib.Core.List.{_∷_, _++_};
+ghost use Prim.Native.Nat.{_+_, _*_, _≤_, _<_};
 ghost use lib.ListN.{length, take, drop};
-ghost use Rattle.lists.specs.Over.{over};
+ghost use Rattle.lists.specs.Lists.{All};
 ghost use Rattle.automaton.specs.Table.{judge};
 ghost use Rattle.reporting.specs.Report as spec;
-ghost use Rattle.reporting.specs.Inner.{reducedLines};
+ghost use Rattle.reporting.specs.Inner.{Short, Put, FewDigits, reducedLines};
 use automaton::Judged;
 use automaton::ROWS;
 use automaton::Size;
@@ -33,83 +33,57 @@ fn digits(v: usize) -> usize
     }
 }
 
-// The digits of v from `at` on; returns where they end.
-fn put_decimal(out: &mut [u8], at: usize, v: usize) -> usize
-    requires { ⌜ v < 100000 ⌝ }
-    requires { ⌜ at + length (spec.decimal v) ≤ length (now out) ⌝ }
-    ensures { λ r. ⌜ r ≡ at + length (spec.decimal v) ⌝ }
-    ensures { λ r. ⌜ now (out .exit) ≡ over (now (out .entry)) at (spec.decimal v) ⌝ }
+// A space and the digits of v from `at` on; returns where they end.
+fn put_number(out: &mut [u8], at: usize, v: usize) -> usize
+    requires { ⌜ (v < 100000) × (at + 6 ≤ length (now out)) ⌝ }
+    ensures { λ r. ⌜ Put (now (out .entry)) at (32 ∷ spec.decimal v) r (now (out .exit)) ⌝ }
 {
     let n = digits(v);
+    out[at] = 32;
     let mut left = v;
     let mut j = n;
     while j > 0 {
-        j -= 1;
         out[at + j] = (48 + left % 10) as u8;
         left = left / 10;
+        j -= 1;
     }
-    at + n
+    at + 1 + n
 }
 
 // A word from `at` on; returns where it ends.
 fn put_word(out: &mut [u8], at: usize, word: &[u8]) -> usize
     requires { ⌜ at + length (now word) ≤ length (now out) ⌝ }
-    ensures { λ r. ⌜ r ≡ at + length (now (word .entry)) ⌝ }
-    ensures { λ r. ⌜ now (out .exit) ≡ over (now (out .entry)) at (now (word .entry)) ⌝ }
+    ensures { λ r. ⌜ Put (now (out .entry)) at (now (word .entry)) r (now (out .exit)) ⌝ }
 {
     put_bytes(out, at, word, word.len());
     at + word.len()
 }
 
-// A space and the digits of v from `at` on; returns where they end.
-fn put_number(out: &mut [u8], at: usize, v: usize) -> usize
-    requires { ⌜ v < 100000 ⌝ }
-    requires { ⌜ at + 6 ≤ length (now out) ⌝ }
-    ensures { λ r. ⌜ r ≡ at + length (32 ∷ spec.decimal v) ⌝ }
-    ensures { λ r. ⌜ now (out .exit) ≡ over (now (out .entry)) at (32 ∷ spec.decimal v) ⌝ }
+// A line of a word and some numbers from `at` on; returns where it ends.
+fn put_line(out: &mut [u8], at: usize, word: &[u8], numbers: &[usize]) -> usize
+    requires { ⌜ All Short (now numbers) ⌝ }
+    requires { ⌜ at + (length (now word) + (6 * length (now numbers) + 1)) ≤ length (now out) ⌝ }
+    ensures { λ r. ⌜ Put (now (out .entry)) at (spec.line (now (word .entry)) (now (numbers .entry))) r (now (out .exit)) ⌝ }
 {
-    out[at] = 32;
-    put_decimal(out, at + 1, v)
-}
-
-// A line of a word and a number from `at` on; returns where it ends.
-fn put_single(out: &mut [u8], at: usize, word: &[u8], a: usize) -> usize
-    requires { ⌜ (a < 100000) × (length (now word) ≤ 7) ⌝ }
-    requires { ⌜ at + 14 ≤ length (now out) ⌝ }
-    ensures { λ r. ⌜ r ≡ at + length (spec.line (now (word .entry)) (a ∷ [])) ⌝ }
-    ensures { λ r. ⌜ now (out .exit) ≡ over (now (out .entry)) at (spec.line (now (word .entry)) (a ∷ [])) ⌝ }
-{
-    let word_end = put_word(out, at, word);
-    let end = put_number(out, word_end, a);
-    out[end] = 10;
-    end + 1
-}
-
-// A line of a word and two numbers from `at` on; returns where it ends.
-fn put_pair(out: &mut [u8], at: usize, word: &[u8], a: usize, b: usize) -> usize
-    requires { ⌜ (a < 100000) × ((b < 100000) × (length (now word) ≤ 7)) ⌝ }
-    requires { ⌜ at + 20 ≤ length (now out) ⌝ }
-    ensures { λ r. ⌜ r ≡ at + length (spec.line (now (word .entry)) (a ∷ b ∷ [])) ⌝ }
-    ensures { λ r. ⌜ now (out .exit) ≡ over (now (out .entry)) at (spec.line (now (word .entry)) (a ∷ b ∷ [])) ⌝ }
-{
-    let word_end = put_word(out, at, word);
-    let first_end = put_number(out, word_end, a);
-    let end = put_number(out, first_end, b);
+    let mut end = put_word(out, at, word);
+    let mut j: usize = 0;
+    while j < numbers.len() {
+        end = put_number(out, end, numbers[j]);
+        j += 1;
+    }
     out[end] = 10;
     end + 1
 }
 
 // The four lines on a reduced table.
 fn put_reduced(out: &mut [u8], old: Size, new: Size, rounds: usize) -> usize
-    requires { ⌜ (old .states < 100000) × ((new .states < 100000) × ((old .rules < 100000) × ((new .rules < 100000) × (rounds < 100000)))) ⌝ }
-    requires { ⌜ 64 ≤ length (now out) ⌝ }
-    ensures { λ r. ⌜ r ≡ length (reducedLines old new rounds) ⌝ }
-    ensures { λ r. ⌜ now (out .exit) ≡ over (now (out .entry)) 0 (reducedLines old new rounds) ⌝ }
+    requires { ⌜ (64 ≤ length (now out)) × FewDigits old new rounds ⌝ }
+    ensures { λ r. ⌜ Put (now (out .entry)) 0 (reducedLines old new rounds) r (now (out .exit)) ⌝ }
 {
     let head = put_word(out, 0, b"reduced\n");
-    let states = put_pair(out, head, b"states", old.states, new.states);
-    let rules = put_pair(out, states, b"rules", old.rules, new.rules);
-    put_single(out, rules, b"rounds", rounds)
+    let states = put_line(out, head, b"states", &[old.states, new.states]);
+    let rules = put_line(out, states, b"rules", &[old.rules, new.rules]);
+    put_line(out, rules, b"rounds", &[rounds])
 }
 
 // Writes the report on the first 27,417 bytes of `input` to the start of `out`; returns its length.
@@ -133,8 +107,7 @@ fn first(input: &[u8]) -> &[u8]
 // The report on a table.
 fn report_on(table: &[u8], out: &mut [u8]) -> usize
     requires { ⌜ length (now out) ≡ 64 ⌝ }
-    ensures { λ r. ⌜ r ≡ length (spec.reportOf (judge (now (table .entry)))) ⌝ }
-    ensures { λ r. ⌜ now (out .exit) ≡ over (now (out .entry)) 0 (spec.reportOf (judge (now (table .entry)))) ⌝ }
+    ensures { λ r. ⌜ Put (now (out .entry)) 0 (spec.reportOf (judge (now (table .entry)))) r (now (out .exit)) ⌝ }
 {
     let mut ranks: [u8; 256] = [0; 256];
     let mut rows: [u8; ROWS] = [0; ROWS];
@@ -142,7 +115,7 @@ fn report_on(table: &[u8], out: &mut [u8]) -> usize
     let finals = decoded.finals;
     let judged = decoded.judged;
     match judged {
-        Judged::Refused(cause) => put_single(out, 0, b"refused", number(cause) as usize),
+        Judged::Refused(cause) => put_line(out, 0, b"refused", &[number(cause) as usize]),
         Judged::Table(size) => {
             let short = reduce_rows(size, finals, &mut rows);
             let left = short.size;

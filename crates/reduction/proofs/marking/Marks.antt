@@ -1,27 +1,27 @@
--- What marks rules: marks made one after the other, and a search among the rules of one target that meets all that matter.
+-- Marks made one after the other, and why a rule stays: of the rules it may go for, all have its target, so that a search among these decides.
+-- For the functions that mark, and for the steps that keep what is marked.
 use Prim.Native.Nat.{ℕ, _+_, _≤_, _<_}
 use native.Mathlib.Omega.{arith}
-use mathlib.Core.Path.{_≡_, refl, sym, ap, _∙_}
-use mathlib.Core.List.{List, [], _∷_, List·Memᴰ, List·Memᴰ·head, List·Memᴰ·tail, List·Memᴰ·not-nil}
-use mathlib.Core.Bool.{Bool, true, false, not, _&&_, true≢false}
+use mathlib.Core.Path.{_≡_, refl, sym, ap, subst, _∙_}
+use mathlib.Core.List.{List, List·Memᴰ}
+use mathlib.Core.Bool.{Bool, true, false}
 use lib.ListN.{length, getD, set, length-set}
-use lib.Dec.{eqb}
-use borrow.Author.Tests.{eq-eqb, eqb-true, eqb-false}
-use Rattle.lists.specs.Lists.{Rising, from, any}
-use Rattle.lists.proofs.Keeping.{keep-in}
-use Rattle.lists.proofs.Ranges.{from-rising, from-member, member-from}
-use Rattle.lists.proofs.Search.{any-in, any-out, any-map, any-keep, any-same}
+use lib.Dec.{eqb, ltb}
+use borrow.Author.Tests.{eq-eqb, eqb-true}
+use Rattle.lists.specs.Lists.{from, any}
 use Rattle.lists.proofs.Arrays.{filled-more}
-use Rattle.lists.proofs.Rising.{rising-rest, rising-above, rising-keep}
-use Rattle.sets.proofs.StateSets.{same-test}
+use Rattle.lists.proofs.Booleans.{and-true-in, and-true-out, same-bool}
+use Rattle.lists.proofs.Search.{any-keep, any-same}
 use Rattle.automaton.specs.Automaton.{Rule}
-use Rattle.automaton.specs.Row.{ruleAt, rulesIn}
+use Rattle.automaton.specs.Row.{ruleAt}
 use Rattle.indexing.specs.Index.{keyed}
-use Rattle.indexing.proofs.Indexing.{number-low}
-use Rattle.refinement.specs.Simulation.{Relation, matchedBy}
-use Rattle.stages.specs.Steps.{sameStates, sameRule, dominatedBy, dominated}
-use Rattle.stages.proofs.SameRules.{same-rule-out, same-rule-refl}
-use Rattle.reduction.specs.Inner.{marked, isFirst}
+use Rattle.indexing.proofs.Indexing.{at-member, keyed-members}
+use Rattle.refinement.specs.Simulation.{Relation}
+use Rattle.stages.specs.Steps.{sameRule, dominatedBy}
+use Rattle.stages.proofs.SameRules.{same-rule-out}
+use Rattle.reduction.specs.Inner.{marked, goesFor}
+use Rattle.reduction.specs.declared.marking.Why.{Why}
+use Rattle.reduction.specs.declared.marking.Why.the-variants.{Repeated, Dominated}
 
 -- The marks of the first i of k rules are made, as a test has them.
 pub record Marking (test : ℕ → Bool) (k : ℕ) (marks₀ : List Bool) (marks : List Bool) (i : ℕ) : Type 0 where
@@ -45,79 +45,32 @@ pub marking-all : {test : ℕ → Bool} {k : ℕ} {marks₀ marks : List Bool} {
     → (j : ℕ) → j < k → marked marks j ≡ test j
 marking-all m h j l = m .made j (omega arith)
 
--- The numbers of the rules that have the target of rule i.
-abbrev pub alike : List ℕ → ℕ → ℕ → List ℕ
-alike rows i k = keyed (λ (u : Rule). u .target) rows (ruleAt rows i .target) 0 k
-
-pub alike-low : (rows : List ℕ) (i k : ℕ) (numbers : List ℕ) → numbers ≡ alike rows i k → (j : ℕ) → j < length numbers
-    → getD numbers j 0 < k
-alike-low rows i k numbers e j h = rw e (number-low (λ (u : Rule). u .target) rows (ruleAt rows i .target) k j (rw e at h))
-
 module _ (rows : List ℕ) (i : ℕ) where
-  abbrev same : ℕ → Bool
-  same j = sameRule (ruleAt rows j) (ruleAt rows i)
+  -- The numbers of the rules that have the target of rule i.
+  abbrev pub alike : ℕ → List ℕ
+  alike k = keyed (λ (u : Rule). u .target) rows (ruleAt rows i .target) k
 
-  -- Numbers that are left, in order, have among them those of all rules up to i that are equal to rule i.
-  pub record Seeking (rest : List ℕ) : Type 0 where
-    pub rising : Rising rest
-    pub left : (j : ℕ) → j ≤ i → same j ≡ true → List·Memᴰ j rest
+  pub alike-at : (k : ℕ) (numbers : List ℕ) → numbers ≡ alike k → (j : ℕ) → j < length numbers
+      → (getD numbers j 0 < k) × (ruleAt rows (getD numbers j 0) .target ≡ ruleAt rows i .target)
+  alike-at k numbers e j h =
+      let m : List·Memᴰ (getD numbers j 0) (alike k) = subst (λ (xs : List ℕ). List·Memᴰ (getD numbers j 0) xs) e (at-member numbers j h) in
+      let (low, high, same) = keyed-members (λ (u : Rule). u .target) rows (ruleAt rows i .target) k (getD numbers j 0) m in
+      (omega arith, same)
 
-  pub seeking-all : (k : ℕ) → i < k → Seeking (alike rows i k)
+  goes-same-target : (why : Why) (R : Relation) (j : ℕ) → goesFor why R rows i j ≡ true
+      → eqb (ruleAt rows j .target) (ruleAt rows i .target) ≡ true
+  unfolding goesFor dominatedBy
+  goes-same-target Repeated R j h =
+      eq-eqb _ _ (ap (λ (u : Rule). u .target) (same-rule-out _ _ (and-true-out (ltb j i) (sameRule _ _) h .1)))
+  goes-same-target Dominated R j h =
+      let u = ruleAt rows i in
+      let v = ruleAt rows j in
+      eq-eqb (v .target) (u .target) (sym (eqb-true (u .target) (v .target) (and-true-out (eqb (u .target) (v .target)) _ h .0)))
+
+  pub alike-decide : (why : Why) (R : Relation) (k : ℕ) → any (goesFor why R rows i) (alike k) ≡ any (goesFor why R rows i) (from 0 k)
   unfolding keyed
-  seeking-all k b = record {
-    rising = rising-keep _ (from-rising 0 k);
-    left = λ j h e.
-        keep-in (λ (j : ℕ). eqb (ruleAt rows j .target) (ruleAt rows i .target))
-        (from-member k 0 j (omega arith) (omega arith))
-        (eq-eqb _ _ (ap (λ (u : Rule). u .target) (same-rule-out (ruleAt rows j) (ruleAt rows i) e)));
-  }
-
-  pub seeking-none : Seeking [] → ⊥
-  seeking-none s = List·Memᴰ·not-nil (s .left i (omega arith) (same-rule-refl (ruleAt rows i)))
-
-  module _ {x : ℕ} {rest : List ℕ} (s : Seeking (x ∷ rest)) where
-    pub seeking-next : same x ≡ false → Seeking rest
-    seeking-next other = record { rising = rising-rest (s .rising); left = λ j h e. later j e (s .left j h e) }
-      where
-        later : (j : ℕ) → same j ≡ true → List·Memᴰ j (x ∷ rest) → List·Memᴰ j rest
-        later j e (List·Memᴰ·head f) = absurd (true≢false (sym e ∙ ap same f ∙ other))
-        later j e (List·Memᴰ·tail m) = m
-
-    pub seeking-found : same x ≡ true → eqb x i ≡ isFirst rows i
-    unfolding isFirst
-    seeking-found is = go (eqb x i) refl (any same (from 0 i)) refl
-      where
-        behind : (j : ℕ) → j ≤ i → same j ≡ true → x ≤ j
-        behind j h e = place (s .left j h e)
-          where
-            place : List·Memᴰ j (x ∷ rest) → x ≤ j
-            place (List·Memᴰ·head e) = omega arith
-            place (List·Memᴰ·tail m) = omega (arith, rising-above (s .rising) m)
-
-        go : (a : Bool) → eqb x i ≡ a → (t : Bool) → any same (from 0 i) ≡ t → a ≡ not t
-        go true e true f =
-            let found = any-out same (from 0 i) f in
-            let low = member-from i 0 (found .element) (found .member) in
-            let high = behind (found .element) (omega arith) (found .passes) in
-            let is = eqb-true x i e in
-            absurd (omega arith)
-        go true e false f = refl
-        go false e true f = refl
-        go false e false f =
-            let other = eqb-false x i e in
-            let high = behind i (omega arith) (same-rule-refl (ruleAt rows i)) in
-            absurd (true≢false (sym (any-in same (from-member i 0 x (omega arith) (omega arith)) is) ∙ f))
-
-  -- Rule j, if its target is that of rule i, dominates rule i.
-  abbrev pub better : Relation → ℕ → Bool
-  better R j =
-      matchedBy R (ruleAt rows i) (ruleAt rows j) && not (sameStates (ruleAt rows i .children) (ruleAt rows j .children))
-
-  pub alike-decide : (R : Relation) (k : ℕ) → dominated R (rulesIn rows k) (ruleAt rows i) ≡ any (better R) (alike rows i k)
-  unfolding dominated dominatedBy rulesIn keyed
-  alike-decide R k =
-      let target : ℕ → ℕ = λ j. ruleAt rows j .target in
-      any-map (dominatedBy R (ruleAt rows i)) (ruleAt rows) (from 0 k)
-      ∙ any-same _ (λ (j : ℕ). eqb (target j) (target i) && better R j) 0 k
-      (λ j a b. rw (same-test (target i) (target j) (target j) (target i) sym sym))
-      ∙ sym (any-keep (better R) (λ (j : ℕ). eqb (target j) (target i)) (from 0 k))
+  alike-decide why R k =
+      any-keep (goesFor why R rows i) _ (from 0 k)
+      ∙ any-same _ _ 0 k (λ j a b. same-bool
+      (λ h. and-true-out (eqb (ruleAt rows j .target) (ruleAt rows i .target)) _ h .1)
+      (λ h. and-true-in (goes-same-target why R j h) h))

@@ -8,8 +8,9 @@ use lib.ListN.{length, length-map}
 use Rattle.lists.specs.Lists.{from, keep}
 use Rattle.lists.proofs.Overwriting.{keep-step, single-kept, single-dropped, kept-few}
 use Rattle.automaton.specs.Automaton.{Rule, renamed}
-use Rattle.automaton.specs.Row.{ruleAt, rulesIn, Row, Rows, Puts}
-use Rattle.automaton.proofs.Rows.{rules-length, rules-next, rows-more, rules-more}
+use Rattle.automaton.specs.Inner.{Puts}
+use Rattle.automaton.specs.Row.{ruleAt, rulesIn, Row, Rows}
+use Rattle.automaton.proofs.Rows.{length-rulesIn, rules-next, rows-more, rules-more}
 
 -- The first n rows hold the rules us, and those from row i on are as before.
 pub record Overwritten (old : List ℕ) (us : List Rule) (i n : ℕ) (rows : List ℕ) : Type 0 where
@@ -54,7 +55,7 @@ module _ (test : ℕ → Bool) (old : List ℕ) where
 
   module _ {i n : ℕ} {rows : List ℕ} (w : Compacted i n rows) where
     pub compacted-count : n ≡ length (keep test (from 0 i))
-    compacted-count = sym (rules-length rows n) ∙ ap length (w .rules) ∙ length-map (keep test (from 0 i)) (ruleAt old)
+    compacted-count = sym (length-rulesIn rows n) ∙ ap length (w .rules) ∙ length-map (keep test (from 0 i)) (ruleAt old)
 
     pub compacted-few : n ≤ i
     compacted-few = omega (arith, compacted-count, kept-few test i)

@@ -1,204 +1,221 @@
--- What each step's calls leave in the arrays is the stage that the step defines.
+-- What the calls of each step leave in the arrays is the stage that the step defines: from the contracts of the calls and what `stages` proves
+-- of the steps, for the functions of src/steps.rt.
 use Prim.Native.Nat.{ℕ, _≤_, _<_}
 use native.Mathlib.Omega.{arith}
-use mathlib.Core.Path.{_≡_, refl, sym, ap, ap₂, _∙_}
-use mathlib.Core.List.{List, [], _∷_, map, List·Memᴰ, List·Memᴰ·head, List·Memᴰ·tail, Memᴰ·of-map}
-use mathlib.Core.Bool.{Bool, true, _&&_}
+use mathlib.Core.Path.{_≡_, sym, ap, ap₂, _∙_}
+use mathlib.Core.List.{List, [], map, List·Memᴰ, List·Memᴰ·not-nil, Memᴰ·of-map}
+use mathlib.Core.Bool.{Bool, true, not, _&&_}
 use lib.ListN.{length}
-use lib.Dec.{eqb}
-use borrow.Author.Tests.{eq-eqb, eqb-true}
-use Rattle.lists.specs.Lists.{all, from, keep, any, among}
-use Rattle.lists.proofs.Keeping.{keep-agree, keep-in, keep-out, keep-shorter}
-use Rattle.lists.proofs.Ranges.{from-rising, length-from, from-member, member-from}
+use lib.Dec.{eqb, ltb}
+use borrow.Author.Tests.{eq-eqb, eqb-true, ltb-true, lt-ltb}
+use Rattle.lists.specs.Lists.{empty, all, from, keep, any, among}
 use Rattle.lists.proofs.Booleans.{and-true-in, and-true-out, same-bool}
-use Rattle.lists.proofs.Search.{any-in, any-out, any-map, among-in, among-out}
 use Rattle.lists.proofs.Elements.{all-member}
-use Rattle.lists.proofs.Rising.{rising-keep, rising-same}
-use Rattle.sets.specs.Set.{member, statesIn}
+use Rattle.lists.proofs.Keeping.{keep-agree, keep-out, keep-shorter}
+use Rattle.lists.proofs.Ranges.{from-low, from-rising, length-from, from-member, member-from}
+use Rattle.lists.proofs.Search.{any-in, any-out, any-map, all-in, all-agree, among-in, among-out}
+use Rattle.sets.specs.Set.{member}
+use Rattle.sets.specs.Inner.{statesIn}
 use Rattle.sets.specs.Inner.{Has}
+use Rattle.sets.proofs.StateSets.{states-low}
 use Rattle.automaton.specs.Automaton.{Rule, Automaton, WellFormed, WellFormedRule, renamed}
 use Rattle.automaton.specs.Row.{ruleAt, rulesIn}
 use Rattle.automaton.proofs.Rows.{rule-in}
+use Rattle.refinement.specs.Simulation.{Relation}
 use Rattle.stages.specs.Steps.{Stage, closure, buildable, productive, namesOnly, trimmed, below, equivalent, firstOf, representative}
-use Rattle.stages.specs.Steps.{firsts, quotient, pruned, kept, restricted, position, shortened}
+use Rattle.stages.specs.Steps.{sameRule, firsts, quotient, dominatedBy, dominated, pruned, needed, kept, restricted, position}
 use Rattle.stages.specs.Inner.{Sound}
 use Rattle.stages.proofs.Firsts.{firsts-in, firsts-places}
-use Rattle.stages.proofs.Quotient.{below-reflexive, first-same, representative-state, quotient-states, quotient-sound}
-use Rattle.stages.proofs.Restricting.{kept-states}
-use Rattle.stages.proofs.Soundness.{sound-pruned, sound-shortened}
+use Rattle.stages.proofs.Quotient.{below-reflexive, first-same, final-representative, representative-final, quotient-states, quotient-sound}
+use Rattle.stages.proofs.Restricting.{kept-states, children-kept, restricted-sound}
 use Rattle.stages.proofs.Numbering.{position-low, positions-rising}
-use Rattle.reduction.specs.Inner.{nameIn, marked, isFirst, stageIn}
-use Rattle.reduction.proofs.steps.StageArrays.{marked-rules, set-states, stage-low, targets-low}
+use Rattle.reduction.specs.Inner.{nameIn, marked, goesFor, stays, Holds, adds, grows}
+use Rattle.reduction.specs.declared.growth.Way.the-variants.{Up, Down}
+use Rattle.reduction.specs.declared.marking.Why.the-variants.{Repeated, Dominated}
+use Rattle.reduction.proofs.steps.StageArrays.{marked-rules, kept-rules, set-states, map-agree, renamed-agree}
 
-all-agree : (f g : ℕ → Bool) (qs : List ℕ) → ((q : ℕ) → List·Memᴰ q qs → f q ≡ g q) → all f qs ≡ all g qs
-unfolding all
-all-agree f g [] h = refl
-all-agree f g (q ∷ qs) h =
-    ap₂ _&&_ (h q (List·Memᴰ·head refl)) (all-agree f g qs (λ p m. h p (List·Memᴰ·tail m)))
+-- Steps 1 and 5.
 
-map-agree : {A B : Type 0} (f g : A → B) (xs : List A) → ((x : A) → List·Memᴰ x xs → f x ≡ g x) → map f xs ≡ map g xs
-map-agree f g [] h = refl
-map-agree f g (x ∷ xs) h = ap₂ _∷_ (h x (List·Memᴰ·head refl)) (map-agree f g xs (λ y m. h y (List·Memᴰ·tail m)))
+pub named-rules : (rows : List ℕ) (k : ℕ) (S : Stage) → Sound S → rulesIn rows k ≡ S .rules → (states xs : List ℕ) → Has states (among xs)
+    → (marks : List Bool)
+    → ((i : ℕ) → i < k → marked marks i ≡ (member states (ruleAt rows i .target) && all (member states) (ruleAt rows i .children)))
+    → map (ruleAt rows) (keep (marked marks) (from 0 k)) ≡ keep (namesOnly xs) (S .rules)
+unfolding namesOnly
+named-rules rows k S sound e states xs has marks h =
+    rw e at (kept-rules rows k marks (namesOnly xs) (λ i l.
+    let m = rw e at (rule-in rows k i l) in
+    h i l ∙ ap₂ _&&_ (has (ruleAt rows i .target) (all-member (sound .low) (sound .targets _ m)))
+    (all-agree (member states) (among xs) (ruleAt rows i .children) (λ q n. has q (all-member (sound .low) (sound .children _ m q n))))))
 
--- Two names that agree on the states of a sound stage rename its rules alike.
-renamed-agree : (f g : ℕ → ℕ) (S : Stage) → Sound S → ((q : ℕ) → List·Memᴰ q (S .states) → f q ≡ g q)
-    → map (renamed f) (S .rules) ≡ map (renamed g) (S .rules)
-unfolding renamed
-renamed-agree f g S sound h =
-    map-agree (renamed f) (renamed g) (S .rules)
-    (λ u m. let t : f (u .target) ≡ g (u .target) = h (u .target) (sound .targets u m) in
-    let c : map f (u .children) ≡ map g (u .children) = map-agree f g (u .children) (λ q n. h q (sound .children u m q n)) in
-    rw (t, c))
+-- Up from no state, the set that grows has the productive states.
+module _ (A : Automaton) (w : WellFormed A) where
+  abbrev pub without-finals : Stage
+  without-finals = record { states = from 0 (A .states); finals = []; rules = A .rules }
 
--- Step 1.
+  state-of : (q : ℕ) → q < A .states → List·Memᴰ q (from 0 (A .states))
+  state-of q h = from-member (A .states) 0 q (omega arith) (omega arith)
 
-module _ (rows : List ℕ) (k : ℕ) (states : List ℕ)
-    (found : (n : ℕ) → n ≤ 256 → ((i : ℕ) → i < k → ruleAt rows i .target < n)
-    → Has states (among (closure (buildable (rulesIn rows k)) (from 0 n))))
-    (A : Automaton) (w : WellFormed A) (e : rulesIn rows k ≡ A .rules) where
-  rule-formed : (i : ℕ) → i < k → WellFormedRule A (ruleAt rows i)
-  rule-formed i h = all-member (w .rules) (rw e at (rule-in rows k i h))
+  formed : (u : Rule) → List·Memᴰ u (A .rules) → WellFormedRule A u
+  formed u m = all-member (w .rules) m
 
-  pub productive-found : Has states (among (productive A))
-  unfolding productive
-  productive-found = rw e at (found (A .states) (w .states) (λ i h. rule-formed i h .target))
+  pub without-finals-sound : Sound without-finals
+  without-finals-sound = record {
+    rising = from-rising 0 (A .states);
+    low = from-low 0 (A .states) 256 (omega (arith, w .states));
+    finals-rising = empty;
+    finals = λ q m. absurd (List·Memᴰ·not-nil m);
+    targets = λ u m. state-of (u .target) (formed u m .target);
+    children = λ u m q n. state-of q (all-member (formed u m .children) n);
+  }
 
-  named-agrees : (i : ℕ) → i < k
-      → (member states (ruleAt rows i .target) && all (member states) (ruleAt rows i .children))
-      ≡ namesOnly (productive A) (ruleAt rows i)
-  unfolding namesOnly
-  named-agrees i h =
-      let u = rule-formed i h in
-      let few = w .states in
-      ap₂ _&&_ (productive-found (ruleAt rows i .target) (omega (arith, u .target)))
-      (all-agree (member states) (among (productive A)) (ruleAt rows i .children)
-      (λ q m. productive-found q (omega (arith, all-member (u .children) m))))
+  pub trimmed-left : (states next : List ℕ) (k : ℕ)
+      → Has states (among (closure (grows Up without-finals) (without-finals .states)))
+      × (rulesIn next k ≡ keep (namesOnly (closure (grows Up without-finals) (without-finals .states))) (without-finals .rules))
+      → Has states (among (productive A)) × (rulesIn next k ≡ trimmed A .rules)
+  unfolding productive buildable trimmed grows adds among any
+  trimmed-left states next k left = left
 
-  pub trimmed-rules : (marks : List Bool)
-      → ((i : ℕ) → i < k → marked marks i ≡ (member states (ruleAt rows i .target) && all (member states) (ruleAt rows i .children)))
-      → map (ruleAt rows) (keep (marked marks) (from 0 k)) ≡ trimmed A .rules
-  unfolding trimmed
-  trimmed-rules marks h =
-      rw e at (marked-rules rows k marks (namesOnly (productive A)) (λ i l. h i l ∙ named-agrees i l))
+-- Down from the final states, it has those that step 5 keeps.
+pub restricted-left : (S : Stage) → Sound S → (states next : List ℕ) (k : ℕ)
+    → Has states (among (closure (grows Down S) (S .states)))
+    × (rulesIn next k ≡ keep (namesOnly (closure (grows Down S) (S .states))) (S .rules))
+    → Has states (among (kept S)) × (rulesIn next k ≡ restricted S .rules)
+unfolding kept needed restricted grows adds namesOnly
+restricted-left S sound states next k (has, rules) = (
+  has,
+  rules ∙ keep-agree (namesOnly (kept S)) (λ (u : Rule). among (kept S) (u .target)) (S .rules) (λ u m. same-bool
+      (λ h. and-true-out (among (kept S) (u .target)) _ h .0)
+      (λ h. and-true-in h (all-in (among (kept S)) (u .children)
+      (λ q n. among-in (children-kept S sound u m (among-out (kept S) (u .target) h) q n))))),
+)
 
--- Step 3.
+-- Steps 3 and 4: of equal rules the first stays, and no dominated one.
 
-pub quotient-low : (S : Stage) → Sound S → (n : ℕ) → ((q : ℕ) → List·Memᴰ q (S .states) → q < n) → (rows : List ℕ) (k : ℕ)
-    → ((u : Rule) → List·Memᴰ u (rulesIn rows k) → List·Memᴰ u (quotient (below S) S .rules)) → (i : ℕ) → i < k → ruleAt rows i .target < n
-quotient-low S sound n low =
-    targets-low (quotient (below S) S) (quotient-sound S sound) n (λ q m. low q (quotient-states S sound q m))
+first-stays : (R : Relation) (rows : List ℕ) (k i : ℕ) → i < k
+    → stays Repeated R rows k i ≡ not (any (λ (j : ℕ). sameRule (ruleAt rows j) (ruleAt rows i)) (from 0 i))
+unfolding stays goesFor
+first-stays R rows k i l =
+    let same : ℕ → Bool = λ j. sameRule (ruleAt rows j) (ruleAt rows i) in
+    let earlier : ℕ → Bool = λ j. ltb j i && same j in
+    ap not (same-bool
+    (λ h. let f = any-out earlier (from 0 k) h in
+    let (before, is) = and-true-out (ltb (f .element) i) (same (f .element)) (f .passes) in
+    any-in same (from-member i 0 (f .element) (omega arith) (omega (arith, ltb-true (f .element) i before))) is)
+    (λ h. let f = any-out same (from 0 i) h in
+    let (low, high) = member-from i 0 (f .element) (f .member) in
+    any-in earlier (from-member k 0 (f .element) (omega arith) (omega arith))
+    (and-true-in (lt-ltb (f .element) i (omega arith)) (f .passes))))
 
-module _ (n : ℕ) (states finals rows : List ℕ) (k : ℕ) (sound : Sound (stageIn n states finals rows k)) (names : List ℕ)
-    (named : (q : ℕ) → q < n → equivalent (below (stageIn n states finals rows k)) q q ≡ true
-    → nameIn names q ≡ firstOf (equivalent (below (stageIn n states finals rows k)) q) (from 0 256)) where
-  abbrev S : Stage
-  S = stageIn n states finals rows k
+pub pruned-rules : (R : Relation) (rows : List ℕ) (k : ℕ) (marks : List Bool)
+    → ((i : ℕ) → i < k → marked marks i ≡ stays Dominated R rows k i) → (S : Stage) → rulesIn rows k ≡ S .rules
+    → map (ruleAt rows) (keep (marked marks) (from 0 k)) ≡ pruned R S .rules
+unfolding stays goesFor dominated rulesIn pruned
+pruned-rules R rows k marks h S e =
+    kept-rules rows k marks (λ (u : Rule). not (dominated R (rulesIn rows k) u))
+    (λ i l. h i l ∙ ap not (sym (any-map (dominatedBy R (ruleAt rows i)) (ruleAt rows) (from 0 k))))
+    ∙ ap (λ (us : List Rule). keep (λ (u : Rule). not (dominated R us u)) us) e
 
-  name-representative : (q : ℕ) → List·Memᴰ q (S .states) → nameIn names q ≡ representative (below S) (S .states) q
-  unfolding equivalent
-  name-representative q m =
-      let r = below-reflexive S sound q m in
-      named q (stage-low n states finals rows k q m) (and-true-in r r) ∙ first-same S sound q m
+module _ (S : Stage) (n : ℕ) (finals rows : List ℕ) (k : ℕ) (holds : Holds S n finals rows k) where
+  quotient-below : (q : ℕ) → List·Memᴰ q (quotient (below S) S .states) → q < n
+  quotient-below q m = holds .low q (quotient-states S (holds .sound) q m)
 
-  -- The rows after the rules are renamed.
-  module _ (next : List ℕ) (e : rulesIn next k ≡ map (renamed (nameIn names)) (rulesIn rows k)) where
-    renamed-rules : rulesIn next k ≡ map (renamed (representative (below S) (S .states))) (S .rules)
-    unfolding stageIn
-    renamed-rules = e ∙ renamed-agree (nameIn names) (representative (below S) (S .states)) S sound name-representative
+  -- The names after step 3's first call.
+  module _ (names : List ℕ)
+      (named : (q : ℕ) → q < n → equivalent (below S) q q ≡ true → nameIn names q ≡ firstOf (equivalent (below S) q) (from 0 256)) where
+    name-representative : (q : ℕ) → List·Memᴰ q (S .states) → nameIn names q ≡ representative (below S) (S .states) q
+    unfolding equivalent
+    name-representative q m =
+        let r = below-reflexive S (holds .sound) q m in
+        named q (holds .low q m) (and-true-in r r) ∙ first-same S (holds .sound) q m
 
-    pub renamed-low : (i : ℕ) → i < k → ruleAt next i .target < n
-    unfolding quotient
-    renamed-low = quotient-low S sound n (stage-low n states finals rows k) next k (λ u m. firsts-in _ (rw renamed-rules at m))
+    -- The rows after the rules are renamed.
+    module _ (next : List ℕ) (e : rulesIn next k ≡ map (renamed (nameIn names)) (rulesIn rows k)) where
+      renamed-rules : rulesIn next k ≡ map (renamed (representative (below S) (S .states))) (S .rules)
+      renamed-rules =
+          e ∙ ap (map (renamed (nameIn names))) (holds .rules-are)
+          ∙ renamed-agree (nameIn names) (representative (below S) (S .states)) S (holds .sound) name-representative
 
-    pub grouped-rules : (marks : List Bool) → ((i : ℕ) → i < k → marked marks i ≡ isFirst next i)
-        → map (ruleAt next) (keep (marked marks) (from 0 k)) ≡ quotient (below S) S .rules
-    unfolding quotient isFirst rulesIn
-    grouped-rules marks h =
-        ap (map (ruleAt next)) (keep-agree (marked marks) (isFirst next) (from 0 k)
-        (λ i m. h i (let l = member-from k 0 i m in omega arith)))
-        ∙ firsts-places (ruleAt next) k
-        ∙ ap firsts renamed-rules
+      pub renamed-below : (i : ℕ) → i < k → ruleAt next i .target < n
+      unfolding quotient
+      renamed-below i h =
+          quotient-below _ (quotient-sound S (holds .sound) .targets _ (firsts-in _ (rw renamed-rules at (rule-in next k i h))))
 
-  pub grouped-finals : (set : List ℕ)
-      → Has set (λ (r : ℕ). any (λ (q : ℕ). eqb (nameIn names q) r) (keep (λ (q : ℕ). member finals q && member states q) (from 0 n)))
-      → Has set (among (quotient (below S) S .finals))
-  unfolding stageIn quotient
-  grouped-finals set has r l =
-      has r l ∙ same-bool
-      (λ t. let f = any-out (λ (q : ℕ). eqb (nameIn names q) r) _ t in
-      let m = sound .finals (f .element) (f .member) in
-      let same : representative (below S) (S .states) (f .element) ≡ r =
-      sym (name-representative (f .element) m) ∙ eqb-true (nameIn names (f .element)) r (f .passes) in
-      among-in (keep-in _ (rw same at (quotient-states S sound _ (representative-state S sound (f .element) m)))
-      (any-in _ (f .member) (eq-eqb _ r same))))
-      (λ t. let o = keep-out _ (S .states) (among-out _ r t) in
-      let f = any-out (λ (q : ℕ). eqb (representative (below S) (S .states) q) r) _ (o .1) in
-      any-in (λ (q : ℕ). eqb (nameIn names q) r) (f .member)
-      (eq-eqb (nameIn names (f .element)) r
-      (name-representative (f .element) (sound .finals (f .element) (f .member)) ∙ eqb-true _ r (f .passes))))
+      grouped-rules : (R : Relation) (marks : List Bool) → ((i : ℕ) → i < k → marked marks i ≡ stays Repeated R next k i)
+          → map (ruleAt next) (keep (marked marks) (from 0 k)) ≡ quotient (below S) S .rules
+      unfolding quotient rulesIn
+      grouped-rules R marks h =
+          marked-rules next k marks _ (λ i l. h i l ∙ first-stays R next k i l) ∙ firsts-places (ruleAt next) k ∙ ap firsts renamed-rules
 
--- Step 5.
+      grouped-finals : (set : List ℕ) → n ≤ 256
+          → Has set (λ (r : ℕ). any (λ (q : ℕ). eqb (nameIn names q) r) (statesIn n finals)) → Has set (among (quotient (below S) S .finals))
+      grouped-finals set few has r l =
+          let sound = holds .sound in
+          let finals-are : statesIn n finals ≡ S .finals =
+          set-states finals (S .finals) n few (sound .finals-rising) (λ q m. holds .low q (sound .finals q m)) (holds .finals-are) in
+          has r l ∙ same-bool
+          (λ t. let f = any-out (λ (q : ℕ). eqb (nameIn names q) r) (S .finals) (rw finals-are at t) in
+          let same : representative (below S) (S .states) (f .element) ≡ r =
+          sym (name-representative (f .element) (sound .finals _ (f .member))) ∙ eqb-true (nameIn names (f .element)) r (f .passes) in
+          among-in (rw same at (final-representative S sound (f .element) (f .member))))
+          (λ t. let (f, m, e) = representative-final S sound r (among-out _ r t) in
+          rw finals-are (any-in (λ (q : ℕ). eqb (nameIn names q) r) m
+          (eq-eqb (nameIn names f) r (name-representative f (sound .finals f m) ∙ e))))
 
-pub restricted-rules : (rows : List ℕ) (k : ℕ) (states : List ℕ) (S : Stage) → Sound S → rulesIn rows k ≡ S .rules
-    → Has states (among (kept S)) → (marks : List Bool)
-    → ((i : ℕ) → i < k → marked marks i ≡ member states (ruleAt rows i .target))
-    → map (ruleAt rows) (keep (marked marks) (from 0 k)) ≡ restricted S .rules
+      pub holds-quotient : n ≤ 256 → (R : Relation) (marks : List Bool) → ((i : ℕ) → i < k → marked marks i ≡ stays Repeated R next k i)
+          → (set last : List ℕ) (left : ℕ) → rulesIn last left ≡ map (ruleAt next) (keep (marked marks) (from 0 k))
+          → Has set (λ (r : ℕ). any (λ (q : ℕ). eqb (nameIn names q) r) (statesIn n finals))
+          → Holds (quotient (below S) S) n set last left
+      holds-quotient few R marks h set last left rules has = record {
+        sound = quotient-sound S (holds .sound);
+        low = quotient-below;
+        finals-are = grouped-finals set few has;
+        rules-are = rules ∙ grouped-rules R marks h;
+      }
+
+-- The targets of the rules that a stage holds, and of what step 5 keeps of it the states, are below n.
+
+pub targets-below : (S : Stage) (n : ℕ) (finals rows : List ℕ) (k : ℕ) → Holds S n finals rows k
+    → (i : ℕ) → i < k → ruleAt rows i .target < n
+targets-below S n finals rows k holds i h =
+    holds .low _ (holds .sound .targets _ (rw (holds .rules-are) at (rule-in rows k i h)))
+
+pub states-kept : (S : Stage) (n : ℕ) → n ≤ 256 → Sound S → ((q : ℕ) → List·Memᴰ q (S .states) → q < n) → (words : List ℕ)
+    → Has words (among (kept S)) → statesIn n words ≡ restricted S .states
 unfolding restricted
-restricted-rules rows k states S sound e has marks h =
-    rw e at (marked-rules rows k marks (λ (u : Rule). among (kept S) (u .target))
-    (λ i l. h i l ∙ has (ruleAt rows i .target)
-    (targets-low S sound 256 (λ q m. all-member (sound .low) m) rows k (λ u m. rw e at m) i l)))
-
--- The kept states, as a set of states below n.
-pub kept-states-in : (n : ℕ) → n ≤ 256 → (S : Stage) (sound : Sound S) → ((q : ℕ) → List·Memᴰ q (S .states) → q < n)
-    → (words : List ℕ) → Has words (among (kept (pruned (below S) (quotient (below S) S)))) → statesIn n words ≡ shortened S .states
-unfolding shortened restricted pruned
-kept-states-in n few S sound low words has =
-    set-states words (kept (pruned (below S) (quotient (below S) S))) n few (sound-shortened S sound .rising)
-    (λ q m. low q (quotient-states S sound q (kept-states (pruned (below S) (quotient (below S) S)) (sound-pruned S sound) q m))) has
+states-kept S n few sound low words has =
+    set-states words (kept S) n few (restricted-sound S sound .rising) (λ q m. low q (kept-states S sound q m)) has
 
 -- Step 6.
 
 module _ (n : ℕ) (few : n ≤ 256) (states finals : List ℕ) (S : Stage) (sound : Sound S) (e : statesIn n states ≡ S .states)
     (has : Has finals (among (S .finals))) (names : List ℕ)
     (named : (q : ℕ) → q < n → member states q ≡ true → nameIn names q ≡ position (statesIn n states) q) where
-  in-range : (q : ℕ) → List·Memᴰ q (S .states) → (q < n) × (member states q ≡ true)
+  member-below : (q : ℕ) → List·Memᴰ q (S .states) → (member states q ≡ true) × (q < n)
   unfolding statesIn
-  in-range q m =
-      let o = keep-out (member states) (from 0 n) (rw (sym e) at m) in
-      let h = member-from n 0 q (o .0) in (omega arith, o .1)
+  member-below q m =
+      let inside = rw (sym e) at m in
+      (keep-out (member states) (from 0 n) inside .1, states-low n states q inside)
 
   name-position : (q : ℕ) → List·Memᴰ q (S .states) → nameIn names q ≡ position (S .states) q
-  name-position q m = let r = in-range q m in named q (r .0) (r .1) ∙ ap (λ (xs : List ℕ). position xs q) e
+  name-position q m = let (is, low) = member-below q m in named q low is ∙ ap (λ (xs : List ℕ). position xs q) e
 
   pub numbered-rules : map (renamed (nameIn names)) (S .rules) ≡ map (renamed (position (S .states))) (S .rules)
   numbered-rules = renamed-agree (nameIn names) (position (S .states)) S sound name-position
 
-  finals-are : keep (λ (q : ℕ). member finals q && member states q) (from 0 n) ≡ S .finals
-  finals-are =
-      rising-same _ (S .finals) (rising-keep _ (from-rising 0 n)) (sound .finals-rising)
-      (λ q m. let o = keep-out _ (from 0 n) m in
-      let h = member-from n 0 q (o .0) in
-      among-out (S .finals) q (sym (has q (omega arith)) ∙ and-true-out (member finals q) (member states q) (o .1) .0))
-      (λ q m. let r = in-range q (sound .finals q m) in
-      let h = r .0 in
-      keep-in _ (from-member n 0 q (omega arith) (omega arith)) (and-true-in (has q (omega arith) ∙ among-in m) (r .1)))
-
   pub numbered-finals : (set : List ℕ) (count : ℕ) → count ≡ length (statesIn n states)
-      → Has set (λ (r : ℕ). any (λ (q : ℕ). eqb (nameIn names q) r) (keep (λ (q : ℕ). member finals q && member states q) (from 0 n)))
+      → Has set (λ (r : ℕ). any (λ (q : ℕ). eqb (nameIn names q) r) (statesIn n finals))
       → statesIn count set ≡ map (position (S .states)) (S .finals)
   unfolding statesIn among
   numbered-finals set count c h =
       let size : count ≡ length (S .states) = c ∙ ap length e in
       let short = keep-shorter (member states) (from 0 n) in
-      let names-same : map (nameIn names) (S .finals) ≡ map (position (S .states)) (S .finals) =
-      map-agree (nameIn names) (position (S .states)) (S .finals) (λ q m. name-position q (sound .finals q m)) in
+      let finals-are : statesIn n finals ≡ S .finals =
+      set-states finals (S .finals) n few (sound .finals-rising) (λ q m. member-below q (sound .finals q m) .1) has in
       set-states set (map (position (S .states)) (S .finals)) count (omega (arith, length-from 0 n))
       (positions-rising (S .states) (sound .rising) (S .finals) (sound .finals-rising) (sound .finals))
       (λ i m. let (q, o, f) = Memᴰ·of-map (position (S .states)) (S .finals) m in
       rw (← f, size) (position-low (S .states) (sound .rising) q (sound .finals q o)))
       (λ r l. h r l ∙ ap (any (λ (q : ℕ). eqb (nameIn names q) r)) finals-are
-      ∙ sym (any-map (λ (i : ℕ). eqb i r) (nameIn names) (S .finals)) ∙ named-among r (map (nameIn names) (S .finals)) _ names-same)
-    where
-      named-among : (r : ℕ) (xs ys : List ℕ) → xs ≡ ys → any (λ (i : ℕ). eqb i r) xs ≡ among ys r
-      named-among r xs ys same = ap (any (λ (i : ℕ). eqb i r)) same
+      ∙ sym (any-map (λ (i : ℕ). eqb i r) (nameIn names) (S .finals))
+      ∙ ap (any (λ (i : ℕ). eqb i r))
+      (map-agree (nameIn names) (position (S .states)) (S .finals) (λ q m. name-position q (sound .finals q m))))

@@ -1,17 +1,18 @@
 -- The count at q is the number of members below q, and so is the name of q.
 use Prim.Native.Nat.{ℕ, _-_, _≤_, _<_}
-use mathlib.Core.Path.{_≡_, refl, sym, _∙_}
+use mathlib.Core.Path.{_≡_, refl, sym, ap, _∙_}
 use mathlib.Core.Logic.{⊎-elim}
 use native.Mathlib.Omega.{arith}
 use lib.ListN.{length, length-set, getD}
 use borrow.Author.Needs.{needs}
 use Rattle.lists.specs.Lists.{from, keep}
-use Rattle.lists.proofs.Overwriting.{kept-few}
+use Rattle.lists.proofs.Overwriting.{kept, kept-few, length-step, single-kept, single-dropped}
 use Rattle.lists.proofs.Arrays.{filled-more}
-use Rattle.sets.specs.Set.{member, statesIn}
+use Rattle.sets.specs.Set.{member}
+use Rattle.sets.specs.Inner.{statesIn}
 use Rattle.reduction.specs.Inner.{nameIn}
 use Rattle.reduction.proofs.blocks.number_states.Tie as tie
-use Rattle.reduction.proofs.blocks.Naming.{one-more, no-more, position-kept}
+use Rattle.reduction.proofs.blocks.Naming.{position-kept}
 use Rattle.reduction.proofs.blocks.number_states.Statement.{statement}
 
 abbrev Inv-loop : tie.InvT-loop
@@ -44,8 +45,8 @@ loop-again c =
       search needs,
       simp length-set (search needs),
       ⊎-elim
-          (λ w. omega (arith, w .1, one-more test (l .q) (sym has ∙ w .0 .taken)))
-          (λ w. omega (arith, w .1, no-more test (l .q) (sym has ∙ w .0 .left)))
+          (λ w. omega (arith, w .1, length-step (kept test) (l .q), ap length (single-kept test (l .q) (sym has ∙ w .0 .taken))))
+          (λ w. omega (arith, w .1, length-step (kept test) (l .q), ap length (single-dropped test (l .q) (sym has ∙ w .0 .left))))
           (c .if1 .came),
       filled-more (λ (p v : ℕ). v ≡ length (keep test (from 0 p))) 0 (l .names) (l .q) _ (omega arith) (l .inv .3) (l .inv .2),
     )

@@ -8,7 +8,7 @@ use borrow.Author.Needs.{needs}
 use Rattle.lists.specs.Lists.{from}
 use Rattle.lists.proofs.Booleans.{and-true-in, and-false-left, and-false-right}
 use Rattle.refinement.specs.Simulation.{related}
-use Rattle.refinement.specs.Words.{relationIn}
+use Rattle.refinement.specs.Inner.{relationIn}
 use Rattle.stages.specs.Steps.{equivalent, firstOf}
 use Rattle.reduction.proofs.blocks.representative.Tie as tie
 use Rattle.reduction.proofs.blocks.Naming.{first-here, first-later}

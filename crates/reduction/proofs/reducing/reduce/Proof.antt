@@ -12,7 +12,7 @@ use Rattle.automaton.specs.Answers.{writingOf}
 use Rattle.automaton.specs.Decoded.{sizeOf, automatonIn}
 use Rattle.automaton.specs.declared.table.Size.{Size}
 use Rattle.automaton.specs.Inner.{RowsRoom}
-use Rattle.automaton.proofs.Rows.{rules-length}
+use Rattle.automaton.proofs.Rows.{length-rulesIn}
 use Rattle.automaton.proofs.Held.{Held, held-well-formed, held-ranks, decoded-held, refused-judged}
 use Rattle.stages.specs.Steps.{reduce, reductionRounds}
 use Rattle.stages.proofs.Sizes.{reduce-well-formed}
@@ -94,7 +94,7 @@ returns-2 c =
 
 counts-held : (size : Size) (finals ranks rows : List ℕ) → size .symbols ≤ length ranks → size ≡ sizeOf (automatonIn size finals ranks rows)
 unfolding automatonIn sizeOf
-counts-held size finals ranks rows h = rw (length-take-le (size .symbols) ranks h, rules-length)
+counts-held size finals ranks rows h = rw (length-take-le (size .symbols) ranks h, length-rulesIn)
 
 returns-3 : tie.Need-returns-3
 unfolding writingOf

@@ -2,6 +2,7 @@
 use native.Mathlib.Omega.{arith}
 use borrow.Author.Needs.{needs}
 use denote.Ref.{now}
+use Rattle.lists.specs.Lists.{none, also}
 use Rattle.records.specs.declared.refusal.Refusal.{Refusal}
 use Rattle.automaton.specs.Inner.{RowsRoom}
 use Rattle.automaton.proofs.Held.{Held, held-well-formed, decoded-held, refused-judged}
@@ -18,17 +19,19 @@ decode-requires c κs = search needs
 abbrev cause : tie.After-known-told → Refusal
 cause c = c .before .judged .given .0 .0
 
-put-single-requires : tie.Need-put-single-requires
-put-single-requires c κs = ((omega (arith, c .number .ensures, refusal-few (cause (c .before .before .before))), omega arith), omega arith)
+put-line-requires : tie.Need-put-line-requires
+put-line-requires c κs =
+    let n = c .before in
+    (also {x = n .number .result} (omega (arith, n .number .ensures, refusal-few (cause (n .before .before .before)))) none, omega arith)
 
 returns : tie.Need-returns
 unfolding refusedWord
 returns c =
-    let number = c .before .before .before in
+    let number = c .before .before .before .before in
     let there = number .before .before .before in
     let d = there .before .before .before .before .before .before .decode in
     report-refused _ (cause there) (refused-judged _ (d .result) _ _ _ (d .ensures) (there .before .judged .given .1)) _ _ _ _
-    (number .number .ensures) (c .before .before .put-single .ensures)
+    (number .number .ensures) (c .before .before .put-line .ensures)
 
 -- The table is not refused.
 abbrev start : tie.After-known-told2 → tie.Start
@@ -51,7 +54,7 @@ put-reduced-requires c κs =
     let there = c .before .before .before .before .before in
     let h = held there in
     let e = c .before .before .before .reduce-rows .ensures .0 _ (held-well-formed h) in
-    (counts-few _ _ _ _ _ h _ _ _ _ (e .0) (e .1), omega (arith, start there .pre))
+    (omega (arith, start there .pre), counts-few _ _ _ _ _ h _ _ _ _ (e .0) (e .1))
 
 returns-2 : tie.Need-returns-2
 returns-2 c =
@@ -64,5 +67,5 @@ pub report-on-spec : {M : Type 1} → statement M
 report-on-spec =
     tie.close
     (tie.spec (λ c. search needs) (λ c. search needs) decode-requires (λ c. search needs) (λ c. search needs) (λ c κs. search needs)
-    (λ c. search needs) put-single-requires (λ c. search needs) (λ c. search needs) reduce-rows-requires put-reduced-requires
+    (λ c. search needs) (λ c. search needs) put-line-requires (λ c. search needs) (λ c. search needs) reduce-rows-requires put-reduced-requires
     (λ c. search needs) returns (λ c. search needs) returns-2)

@@ -1,23 +1,20 @@
 -- The rules below the index are marked, each by the numbers of its target.
 use borrow.Author.Needs.{needs}
 use native.Mathlib.Omega.{arith}
-use Prim.Native.Nat.{ℕ, _-_}
+use Prim.Native.Nat.{_-_}
 use mathlib.Core.Path.{_≡_, ap, _∙_}
-use mathlib.Core.Bool.{not}
-use Rattle.automaton.specs.Row.{ruleAt, rulesIn}
 use Rattle.indexing.specs.Index.{keyOf, numbersOf}
-use Rattle.refinement.specs.Words.{relationIn}
-use Rattle.stages.specs.Steps.{dominated}
-use Rattle.reduction.proofs.marking.mark_undominated.Tie as tie
+use Rattle.refinement.specs.Inner.{relationIn}
+use Rattle.reduction.specs.Inner.{stays}
+use Rattle.reduction.proofs.marking.mark_staying.Tie as tie
 use Rattle.reduction.proofs.marking.Marks.{alike, Marking, marking-none, marking-next, marking-all}
-use Rattle.reduction.proofs.marking.mark_undominated.Statement.{statement}
+use Rattle.reduction.proofs.marking.mark_staying.Statement.{statement}
 
 abbrev Inv-loop : tie.InvT-loop
-Inv-loop words rows k n marks₀ index i₀ marks i =
-    Marking (λ (j : ℕ). not (dominated (relationIn words) (rulesIn rows k) (ruleAt rows j))) k marks₀ marks i
+Inv-loop words rows k n why marks₀ index i₀ marks i = Marking (stays why (relationIn words) rows k) k marks₀ marks i
 
 abbrev μ-loop : tie.MeasureT-loop
-μ-loop words rows k n marks₀ index i₀ marks i = k - i
+μ-loop words rows k n why marks₀ index i₀ marks i = k - i
 
 abbrev indexed : tie.In-loop Inv-loop μ-loop → tie.After-index-rules Inv-loop μ-loop
 indexed t = t .before .before .before
@@ -47,8 +44,8 @@ numbers-are c =
     c .rules-of .ensures ∙ ap (numbersOf _) (b .target-of .ensures)
     ∙ indexed t .index-rules .ensures .numbers _ (start t .pre .1 .1 _ (t .loop-test .taken))
 
-is-undominated-requires : tie.Need-is-undominated-requires Inv-loop μ-loop
-is-undominated-requires c κs =
+stays-requires : tie.Need-stays-requires Inv-loop μ-loop
+stays-requires c κs =
     let t = c .before .before .before in
     let s = start t in
     (s .args .k, (t .loop-test .taken, (s .pre .0 .0, numbers-are c)))
@@ -57,15 +54,15 @@ loop-again : tie.Need-loop-again Inv-loop μ-loop
 loop-again c =
     let b = c .before in
     let t = b .before .before .before in
-    marking-next (t .before .loop .inv) (t .loop-test .taken) (start t .pre .0 .1) (c .is-undominated .result)
-    (c .is-undominated .ensures (start t .args .k) (numbers-are b))
+    marking-next (t .before .loop .inv) (t .loop-test .taken) (start t .pre .0 .1) (c .stays .result)
+    (c .stays .ensures (start t .args .k) (numbers-are b))
 
-pub mark-undominated-spec : {M : Type 1} → statement M
-mark-undominated-spec =
+pub mark-staying-spec : {M : Type 1} → statement M
+mark-staying-spec =
     tie.close
     (tie.spec Inv-loop μ-loop (λ c. search needs) index-rules-requires (λ c. marking-none _ _ _) (λ c. search needs)
     (λ c κs. start (c .before) .pre .0 .0 .row _ (c .before .loop-test .taken)) (λ c. search needs) rules-of-requires
-    is-undominated-requires
+    stays-requires
     (λ c. let t = c .before .before .before .before in omega (arith, t .before .loop .inv .as-long, start t .pre .0 .1)) (λ c. search needs)
     (λ c. search needs) loop-again (λ c. c .before .loop .inv .as-long)
     (λ c. marking-all (c .before .loop .inv) (c .loop-test .left)))
