@@ -29,6 +29,7 @@ use automaton::Size;
 use indexing::INDEX;
 use indexing::Key;
 use indexing::index_rules;
+use refinement::Relation;
 use refinement::simulate;
 use sets::StateSet;
 
@@ -189,9 +190,15 @@ pub fn reduce_rows(size: Size, finals: StateSet, rows: &mut [u8]) -> Short
         symbols: size.symbols,
         rules: trimmed.rules,
     };
-    let mut words: [u64; 1024] = [0; 1024];
-    let rounds = simulate_left(states, left, rows, &mut words);
-    let short = shorten(&words, finals.meet(states), left.states, rows, left.rules);
+    let mut relation = Relation { words: [0; 1024] };
+    let rounds = simulate_left(states, left, rows, &mut relation.words);
+    let short = shorten(
+        &relation.words,
+        finals.meet(states),
+        left.states,
+        rows,
+        left.rules,
+    );
     let reduced = Size {
         states: short.states,
         symbols: size.symbols,

@@ -53,9 +53,8 @@ module _ (rows : List ℕ) (i : ℕ) where
   pub alike-at : (k : ℕ) (numbers : List ℕ) → numbers ≡ alike k → (j : ℕ) → j < length numbers
       → (getD numbers j 0 < k) × (ruleAt rows (getD numbers j 0) .target ≡ ruleAt rows i .target)
   alike-at k numbers e j h =
-      let m : List·Memᴰ (getD numbers j 0) (alike k) = subst (λ (xs : List ℕ). List·Memᴰ (getD numbers j 0) xs) e (at-member numbers j h) in
-      let (low, high, same) = keyed-members (λ (u : Rule). u .target) rows (ruleAt rows i .target) k (getD numbers j 0) m in
-      (omega arith, same)
+      keyed-members (λ (u : Rule). u .target) rows (ruleAt rows i .target) k (getD numbers j 0)
+      (subst (λ (xs : List ℕ). List·Memᴰ (getD numbers j 0) xs) e (at-member numbers j h))
 
   goes-same-target : (why : Why) (R : Relation) (j : ℕ) → goesFor why R rows i j ≡ true
       → eqb (ruleAt rows j .target) (ruleAt rows i .target) ≡ true

@@ -50,8 +50,8 @@ simulate-left-requires c κs =
 
 -- What steps 3 to 6 work on.
 trimmed-held : (m : tie.After-meet) (ranks : List ℕ)
-    → let t = m .before .before .before .before .before .before .before .before in
-    let l = m .before .before .simulate-left in
+    → let t = m .before .before .before .before .before .before .before .before .before in
+    let l = m .before .before .before .simulate-left in
     WellFormed (automaton t ranks)
     → Holds (trimmed (automaton t ranks)) (start t .args .size .states) (m .meet .result .words) (t .keep-grown .last .1 .1 .0)
     (t .keep-grown .result .rules)
@@ -59,8 +59,8 @@ trimmed-held : (m : tie.After-meet) (ranks : List ℕ)
     × (l .result ≡ reductionRounds (automaton t ranks))
 unfolding below reductionRounds roundsIn trimmed
 trimmed-held m ranks w =
-    let t = m .before .before .before .before .before .before .before .before in
-    let l = m .before .before .simulate-left in
+    let t = m .before .before .before .before .before .before .before .before .before in
+    let l = m .before .before .before .simulate-left in
     let states = states-are _ _ _ _ w _ _ _ (left t ranks w) in (
       rw (m .meet .ensures) (holds-trimmed _ _ _ _ w _ _ _ (left t ranks w)),
       rw (states, left t ranks w .1) at (l .ensures .1),
@@ -70,7 +70,7 @@ trimmed-held m ranks w =
 shorten-requires : tie.Need-shorten-requires
 shorten-requires c κs =
     let m = c .before in
-    let t = m .before .before .before .before .before .before .before .before in
+    let t = m .before .before .before .before .before .before .before .before .before in
     let (ranks, w) = start t .pre .1 in
     let (holds, relation, rounds) = trimmed-held m ranks w in
     ((states-few _ _ _ _ w, t .keep-grown .ensures .0), (_, (holds, relation)))

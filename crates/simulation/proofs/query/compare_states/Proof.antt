@@ -21,7 +21,7 @@ simulate-all-requires c κs =
     ((pre .0 .0, (pre .1 .0, omega arith)), (pre .1 .1, zero-words 1024))
 
 abbrev made : tie.After-has-pair → tie.After-simulate-all
-made s = s .before .before .before
+made s = s .before .before .before .before
 
 abbrev start : tie.After-simulate-all → tie.Start
 start m = m .before .before .before .before
@@ -56,14 +56,14 @@ numbers-are s =
 
 first-unmatched-requires : tie.Need-first-unmatched-requires
 first-unmatched-requires c κs =
-    let s = c .before in
+    let s = c .before .before in
     let begin = start (made (s .before .before .before)) in
     (begin .pre .1 .0, (begin .args .r, numbers-are s))
 
 returns-2 : tie.Need-returns-2
 unfolding comparisonOf mapRead isYes
 returns-2 c =
-    let s = c .before .before in
+    let s = c .before .before .before in
     let tested = s .before .before in
     let m = made (tested .before) in
     record {

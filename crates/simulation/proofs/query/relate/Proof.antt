@@ -59,10 +59,10 @@ abbrev at-table : tie.After-simulate-all → tie.After-known-told2
 at-table s = s .before .before .before .before .before
 
 put-rows-requires : tie.Need-put-rows-requires
-put-rows-requires c κs = (states-few (at-table (c .before .before .before)), search needs)
+put-rows-requires c κs = (states-few (at-table (c .before .before .before .before)), search needs)
 
-abbrev simulated : tie.After-relation3 → tie.After-simulate-all
-simulated c = c .before .before .before .before .before .before .before
+abbrev simulated : tie.After-count-pairs-arg → tie.After-simulate-all
+simulated c = c .before .before .before .before .before .before .before .before .before
 
 count-pairs-requires : tie.Need-count-pairs-requires
 count-pairs-requires c κs = states-few (at-table (simulated c))
@@ -78,7 +78,7 @@ returns-3 c =
     let s = simulated (c .before) in
     let t = at-table s in
     query-written _ _ (A t) (held t .1) (judged t) _ _ _ _ (omega arith) (s .simulate-all .ensures .1 .0) (s .simulate-all .ensures .0)
-    (c .before .before .before .before .put-rows .ensures) (c .count-pairs .ensures)
+    (c .before .before .before .before .before .put-rows .ensures) (c .count-pairs .ensures)
 
 pub relate-spec : {M : Type 1} → statement M
 relate-spec =
