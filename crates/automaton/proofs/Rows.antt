@@ -9,7 +9,8 @@ use mathlib.Core.Path.{_≡_, refl, _∙_}
 use mathlib.Core.List.{List, [], _∷_, _++_, map, map-append, List·Memᴰ, Memᴰ·map, Memᴰ·of-map}
 use lib.ListN.{length, take, drop, length-drop, getD, length-take, length-map}
 use Rattle.lists.specs.Lists.{All, also, from, none}
-use Rattle.lists.proofs.Ranges.{length-from, from-step, from-member, member-from}
+use Rattle.lists.proofs.Mapping.{map-agree}
+use Rattle.lists.proofs.Ranges.{length-from, from-step, from-member, member-from, each-from}
 use Rattle.records.proofs.Fields.{Bytes, bytes-drop}
 use Rattle.automaton.specs.Automaton.{Rule}
 use Rattle.automaton.specs.Row.{width, rulesIn, Rows, ruleAt, Row}
@@ -71,11 +72,6 @@ rule-low rows i h = (
   bytes-first (getD rows (width * i + 2) 0) (drop (width * i + 3) rows) (bytes-drop (width * i + 3) rows h),
 )
 
-map-from-agree : (f g : ℕ → Rule) (i k : ℕ) → ((j : ℕ) → j < i + k → f j ≡ g j) → map f (from i k) ≡ map g (from i k)
-unfolding from
-map-from-agree f g i zero h = refl
-map-from-agree f g i (suc k) h = rw (h i (omega arith), map-from-agree f g (suc i) k (λ j l. h j (omega arith)))
-
 module _ {rows rows′ : List ℕ} {i : ℕ} {u : Rule} (r : Rows rows i) (p : Puts rows rows′ i u) where
   pub rows-more : i < 1024 → Rows rows′ (i + 1)
   rows-more l = record {
@@ -87,5 +83,5 @@ module _ {rows rows′ : List ℕ} {i : ℕ} {u : Rule} (r : Rows rows i) (p : P
   unfolding rulesIn
   rules-more =
       let before : rulesIn rows′ i ≡ rulesIn rows i =
-      map-from-agree _ _ 0 i (λ j l. p .others j (λ e. omega arith) (r .row j (omega arith)) .1) in
+      map-agree _ _ (from 0 i) (each-from _ 0 i (λ j a l. p .others j (λ e. omega arith) (r .row j (omega arith)) .1)) in
       rules-next rows′ i ∙ rw (before, p .holds)

@@ -23,7 +23,7 @@ use Rattle.reduction.specs.declared.reducing.Reduction.{Reduction}
 use Rattle.reduction.proofs.Answers.{reduction-causes}
 use Rattle.reduction.proofs.Theorems.{reduction-leaves, demand-3}
 use Rattle.reporting.specs.Report.{report}
-use Rattle.reporting.proofs.Reporting as reporting
+use Rattle.reporting.proofs.Reporting as reports
 use Rattle.fensullay.specs.Exports.{ended, exported, done, judging, checking, relating, compareCode, ComparesInto, reductionNumbers}
 use Rattle.fensullay.specs.Exports.{reducing, reporting}
 use Rattle.fensullay.specs.Means.{UpTo, UpToOr, WorkMeans, YesNoMeans}
@@ -101,7 +101,7 @@ report-leaves input out numbers = leaves _ _ _ _ _ _ (writing-leaves (report inp
 
 -- A report has at most 64 bytes.
 pub report-short : (input : List ℕ) → length (report input) ≤ 64
-report-short = reporting.report-short
+report-short = reports.report-short
 
 -- A call of reducing that returned 0: its numbers and its bytes meet demand 3.
 pub reduced-demand-3 : (table out numbers out′ numbers′ : List ℕ) → ((i : ℕ) → getD table i 0 < 256)

@@ -18,14 +18,14 @@ use Rattle.reduction.specs.Reduce.{reduction, reductionAfter}
 use Rattle.reduction.specs.declared.reducing.Reduction.{Reduction}
 use Rattle.reporting.specs.Report.{report}
 
--- The number that a call returns; the array for numbers and the output afterwards.
+-- The number that a call returns; the array for numbers and the output afterwards, which is empty for a call that has none.
 pub record Exported : Type 0 where
   pub code : ℕ
   pub numbers : List ℕ
   pub out : List ℕ
 
 -- The end of a call that has room for its numbers, from what it read. What was found has a code, and numbers at the start of the array, in which
--- what stands after them stays. The code of a refusal is document 01's number; it leaves the array.
+-- what stands after them stays. The code of a refusal is document 01's number; a refusal leaves the array.
 unfoldable pub ended : {A : Type 0} → (A → ℕ) → (A → List ℕ) → Read A → List ℕ → List ℕ → Exported
 ended codeOf numbersOf (found a) numbers after =
     record { code = codeOf a; numbers = numbersOf a ++ drop (length (numbersOf a)) numbers; out = after }

@@ -1,6 +1,7 @@
 pub mod Arrays
 pub mod Booleans
 pub mod Keeping
+pub mod Mapping
 pub mod Distinctness
 pub mod Elements
 pub mod Ranges

@@ -1,4 +1,4 @@
--- What the contracts of inner functions cite; neither `reduce` nor `report` cites any of it. Places that an array does not have, where
+-- What the contracts of inner functions cite; the call `reduce` cites none of it. Places that an array does not have, where
 -- `getD` would give its default, are ruled out by the bounds in the contracts that cite these.
 use Prim.Native.Nat.{ℕ, _<_}
 use mathlib.Core.Path.{_≡_}

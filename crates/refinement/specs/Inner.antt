@@ -1,4 +1,5 @@
--- What the contracts of matching, of the rounds and of the crates above cite of them; no call for everybody cites any of it.
+-- What the contracts of matching, of the rounds and of the crates above cite of them; no call for everybody cites any of it. Places that an
+-- array does not have, where `getD` would give its default, are ruled out by the bounds in the contracts that cite these.
 use Prim.Native.Nat.{ℕ, _≤_, _<_}
 use mathlib.Core.Path.{_≡_}
 use mathlib.Core.List.{List, [], List·Memᴰ}

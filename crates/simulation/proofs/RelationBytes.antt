@@ -16,6 +16,7 @@ use Rattle.lists.specs.Lists.{from, keep}
 use Rattle.lists.specs.Over.{over}
 use Rattle.lists.proofs.Ranges.{from-step, length-from, from-append, each-from}
 use Rattle.lists.proofs.Overwriting.{over-then, kept-few}
+use Rattle.lists.proofs.Mapping.{map-shifted}
 use Rattle.lists.proofs.Keeping.{keep-none, keep-append, keep-map}
 use Rattle.sets.proofs.StateSets.{bit, bit-suc}
 use Rattle.refinement.specs.Simulation.{Relation, related}
@@ -75,13 +76,6 @@ ones-few w = kept-few _ 64
 length-keep-append : (test : ℕ → Bool) (i a b : ℕ)
     → length (keep test (from i (a + b))) ≡ length (keep test (from i a)) + length (keep test (from (i + a) b))
 length-keep-append test i a b = rw (from-append, keep-append, length-append)
-
-map-shifted : {A : Type 0} (f g : ℕ → A) (a b n : ℕ) → ((j : ℕ) → j < n → f (a + j) ≡ g (b + j)) → map f (from a n) ≡ map g (from b n)
-unfolding from
-map-shifted f g a b zero h = refl
-map-shifted f g a b (suc n) h =
-    ap₂ _∷_ (simp add-zero at (h 0 (omega arith)))
-    (map-shifted f g (suc a) (suc b) n (λ j l. rw (suc-add, suc-add, ← add-suc, ← add-suc) (h (suc j) (omega arith))))
 
 count-kept : (test : ℕ → Bool) (xs : List ℕ) → length (keep test xs) ≡ length (keep (λ (t : Bool). t) (map test xs))
 count-kept test xs = rw (keep-map, length-map)
@@ -224,7 +218,7 @@ module _ (R : Relation) where
       rw (rows-at n 0 q (r / 8) h (omega arith), zero-add)
       (bits-bit 8 q (8 * (r / 8)) (r % 8) (omega arith) ∙ ap (related R q) (omega arith))
 
--- A turn of the loop that writes the bytes.
+-- A turn of the loop that writes a word's bytes, and of the one that writes the words.
 
 over-one : (out : List ℕ) (at v : ℕ) → at + 1 ≤ length out → set out at v ≡ over out at (v ∷ [])
 unfolding over
@@ -234,12 +228,39 @@ length-bytes : (ws : List ℕ) (i : ℕ) → length (bytesOf ws i) ≡ i
 unfolding bytesOf
 length-bytes ws i = length-map (from 0 i) (byteOf ws) ∙ length-from 0 i
 
-pub byte-next : (out ws now : List ℕ) (i : ℕ) → now ≡ over out 0 (bytesOf ws i) → length now ≡ length out → i < length out
-    → set now i (byteOf ws i) ≡ over out 0 (bytesOf ws (i + 1))
-byte-next out ws now i e long h =
-    over-then out 0 (bytesOf ws i) now i (byteOf ws i ∷ []) _ e (over-one now i (byteOf ws i) (omega arith))
-    (omega (arith, length-bytes ws i)) (omega arith)
-    ∙ ap (over out 0) one-more
+pub byte-next : (out : List ℕ) (at w : ℕ) (now : List ℕ) (j : ℕ) → now ≡ over out at (bytesOf (w ∷ []) j) → length now ≡ length out
+    → j < 8 → at + 8 ≤ length out → set now (at + j) (w / 2 ^ (8 * j) % 256) ≡ over out at (bytesOf (w ∷ []) (j + 1))
+unfolding byteOf
+byte-next out at w now j e long h room =
+    let first : j / 8 ≡ 0 = omega arith in
+    let same : j % 8 ≡ j = omega arith in
+    let byte : w / 2 ^ (8 * j) % 256 ≡ byteOf (w ∷ []) j = rw (first, same) in
+    rw byte
+    (over-then out at (bytesOf (w ∷ []) j) now (at + j) (byteOf (w ∷ []) j ∷ []) _ e (over-one now (at + j) (byteOf (w ∷ []) j) (omega arith))
+    (omega (arith, length-bytes (w ∷ []) j)) (omega arith)
+    ∙ ap (over out at) one-more)
   where
-    one-more : bytesOf ws i ++ (byteOf ws i ∷ []) ≡ bytesOf ws (i + 1)
+    one-more : bytesOf (w ∷ []) j ++ (byteOf (w ∷ []) j ∷ []) ≡ bytesOf (w ∷ []) (j + 1)
     one-more = unfold bytesOf in rw (from-step, map-append, zero-add)
+
+word-bytes : (ws : List ℕ) (i : ℕ) → bytesOf ws (8 * i) ++ bytesOf (getD ws i 0 ∷ []) 8 ≡ bytesOf ws (8 * (i + 1))
+unfolding bytesOf byteOf
+word-bytes ws i =
+    let more : 8 * (i + 1) ≡ 8 * i + 8 = omega arith in
+    rw (more, from-append, map-append)
+    (ap (λ (l : List ℕ). map (byteOf ws) (from 0 (8 * i)) ++ l)
+    (sym (map-shifted (byteOf ws) (byteOf (getD ws i 0 ∷ [])) (0 + 8 * i) 0 8 (λ j h. same j h))))
+  where
+    same : (j : ℕ) → j < 8 → byteOf ws (0 + 8 * i + j) ≡ byteOf (getD ws i 0 ∷ []) (0 + j)
+    same j h =
+        let word : (0 + 8 * i + j) / 8 ≡ i = omega arith in
+        let byte : (0 + 8 * i + j) % 8 ≡ (0 + j) % 8 = omega arith in
+        let first : (0 + j) / 8 ≡ 0 = omega arith in
+        rw (word, byte, first)
+
+pub word-next : (out ws now : List ℕ) (i : ℕ) (next : List ℕ) → now ≡ over out 0 (bytesOf ws (8 * i))
+    → next ≡ over now (8 * i) (bytesOf (getD ws i 0 ∷ []) 8) → 8 * i + 8 ≤ length out → next ≡ over out 0 (bytesOf ws (8 * (i + 1)))
+word-next out ws now i next e f room =
+    over-then out 0 (bytesOf ws (8 * i)) now (8 * i) (bytesOf (getD ws i 0 ∷ []) 8) next e f (omega (arith, length-bytes ws (8 * i)))
+    (omega (arith, length-bytes (getD ws i 0 ∷ []) 8))
+    ∙ ap (over out 0) (word-bytes ws i)

@@ -1,4 +1,4 @@
--- What the contracts of inner functions and of those exported for the crates above cite; no call for everybody cites any of it. Places that an
+-- What the contracts of inner functions cite; no call for everybody cites any of it. Places that an
 -- array does not have, where `getD` would give its default, are ruled out by the bounds in the contracts that cite these.
 use Prim.Native.Nat.{ℕ, zero, suc, _+_, _*_, _/_, _%_, _^_, _≤_, _<_}
 use mathlib.Core.Path.{_≡_}

@@ -1,6 +1,7 @@
 // The relation query and the pair query.
 ghost use Prim.Native.Nat.{ℕ, _*_, _+_, _≤_, _<_};
 ghost use mathlib.Core.Path.{_≡_};
+ghost use mathlib.Core.List.{[], _∷_};
 ghost use lib.ListN.{length, getD};
 ghost use lib.Dec.{ltb};
 ghost use Rattle.lists.specs.Lists.{from};
@@ -57,15 +58,27 @@ fn all_states(n: usize) -> StateSet
     set
 }
 
-// The rows of n states at the start of `out`: the bytes of their words in order, the lowest of each first.
+// The eight bytes of a word from `at` on, the lowest first.
+fn put_word(out: &mut [u8], at: usize, word: u64)
+    requires { ⌜ at + 8 ≤ length (now out) ⌝ }
+    ensures { λ _. ⌜ now (out .exit) ≡ over (now (out .entry)) at (bytesOf (word ∷ []) 8) ⌝ }
+{
+    let mut j: usize = 0;
+    while j < 8 {
+        out[at + j] = ((word >> (8 * j)) % 256) as u8;
+        j += 1;
+    }
+}
+
+// The rows of n states at the start of `out`, the bytes of their words in order.
 fn put_rows(words: &[u64; 1024], n: usize, out: &mut [u8])
     requires { ⌜ n ≤ 256 ⌝ }
     requires { ⌜ 32 * n ≤ length (now out) ⌝ }
     ensures { λ _. ⌜ now (out .exit) ≡ over (now (out .entry)) 0 (bytesOf (now (words .entry)) (32 * n)) ⌝ }
 {
     let mut i: usize = 0;
-    while i < 32 * n {
-        out[i] = ((words[i / 8] >> (8 * (i % 8))) % 256) as u8;
+    while i < 4 * n {
+        put_word(out, 8 * i, words[i]);
         i += 1;
     }
 }

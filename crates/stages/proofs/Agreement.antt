@@ -1,5 +1,5 @@
 -- The six steps put together: what step 1 leaves carries over by steps 3 to 6 to the reduced automaton. So both accept the same trees, and
--- the ≤ of the reduced automaton lies within that of the representatives: no two states simulate each other and no rule is dominated; each
+-- the ≤ of the reduced automaton lies within that of the representatives: no two states simulate each other, no rule stands twice and none is dominated; each
 -- state is reached and under a final one, so it takes part in an accepted tree. For demand 3.
 use Prim.Native.Nat.{ℕ, _<_}
 use native.Mathlib.Omega.{arith}

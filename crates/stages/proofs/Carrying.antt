@@ -1,5 +1,5 @@
--- A stage carries over to another if downward simulations go there and back. Then trees reach final states of both alike, and each simulation
--- of the second lies, taken back, within the ≤ of the first. One step after the other carries over too: each of the steps 3 to 6 is an
+-- A stage carries over to another if downward simulations go there and back. Then trees reach final states of both alike, and the ≤ of
+-- the second lies, taken back, within that of the first. One step after the other carries over too: each of the steps 3 to 6 is an
 -- instance of its own (`Quotient`, `Pruning`, `Restricting`, `Numbering`), and `Agreement` puts them together.
 use Prim.Native.Nat.{ℕ}
 use native.Mathlib.Omega.{arith}
@@ -102,9 +102,9 @@ Connected S =
     → ((u : Rule) → List·Memᴰ u (S .rules) → P (u .target) → (q : ℕ) → List·Memᴰ q (u .children) → P q)
     → (q : ℕ) → List·Memᴰ q (S .states) → P q
 
--- Stage S carries over to T: the states of S go into states of T that can do no less, and back. Each state of T stands for one of S, its
--- origin, and goes there and back with it; different ones have different origins. A final state goes into a final state, not always the one
--- that it is the origin of, and back.
+-- Stage S carries over to T: what a state of S goes into, or a state of T goes back to, can do no less. Each state of T stands for one of S,
+-- its origin, which goes into it and to which it goes back; different ones have different origins. Each final state of S goes into one of T,
+-- and each of T goes back to one of S; a state of S that is neither final nor an origin may go nowhere.
 pub record Carries (origin : ℕ → ℕ) (S T : Stage) : Type 1 where
   pub into : ℕ → ℕ → Type 0
   pub back : ℕ → ℕ → Type 0

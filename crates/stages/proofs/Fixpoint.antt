@@ -10,6 +10,7 @@ use mathlib.Core.Bool.{not}
 use lib.Dec.{eqb}
 use borrow.Author.Tests.{eq-eqb, ne-eqb}
 use Rattle.lists.specs.Lists.{Rising, from, among}
+use Rattle.lists.proofs.Mapping.{map-fixed}
 use Rattle.lists.proofs.Keeping.{keep-all}
 use Rattle.lists.proofs.Ranges.{from-rising, length-from, member-from}
 use Rattle.lists.proofs.Booleans.{and-true-in}
@@ -30,7 +31,6 @@ use Rattle.stages.proofs.Trimming.{occurs-productive, trimmed-sound}
 use Rattle.stages.proofs.Firsts.{firsts-same}
 use Rattle.stages.proofs.Quotient.{representative-below, below-representative, quotient-sound, final-representative}
 use Rattle.stages.proofs.Quotient.{representative-final}
-use Rattle.stages.proofs.Numbering.{map-fixed}
 use Rattle.stages.proofs.Restricting.{kept-states, finals-kept, children-kept, restricted-sound}
 
 -- The states of a run are reached from the root by rules.

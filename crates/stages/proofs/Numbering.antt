@@ -9,6 +9,7 @@ use lib.ListN.{length, getD}
 use lib.Dec.{eqb}
 use borrow.Author.Tests.{eq-eqb, eqb-true, ne-eqb}
 use Rattle.lists.specs.Lists.{Rising, empty, Distinct}
+use Rattle.lists.proofs.Mapping.{map-fixed}
 use Rattle.lists.proofs.Distinctness.{distinct-map}
 use Rattle.lists.proofs.Ranges.{member-from}
 use Rattle.lists.proofs.Booleans.{never-true}
@@ -72,11 +73,6 @@ module _ (states : List ℕ) (rising : Rising states) where
           let s = Memᴰ·of-map (position states) xs m in
           rw (← (s .2))
           (position-rises rising (inside x (List·Memᴰ·head refl)) (inside (s .0) (List·Memᴰ·tail (s .1))) (rising-above r (s .1)))
-
--- Renaming that changes nothing.
-pub map-fixed : {A : Type 0} (f : A → A) (xs : List A) → ((x : A) → List·Memᴰ x xs → f x ≡ x) → map f xs ≡ xs
-map-fixed f [] h = refl
-map-fixed f (x ∷ xs) h = ap₂ _∷_ (h x (List·Memᴰ·head refl)) (map-fixed f xs (λ y m. h y (List·Memᴰ·tail m)))
 
 each-map-both : {D E : ℕ → ℕ → Type 0} (f : ℕ → ℕ) → ((q r : ℕ) → D q r → E (f q) (f r)) → {qs rs : List ℕ} → Each D qs rs
     → Each E (map f qs) (map f rs)

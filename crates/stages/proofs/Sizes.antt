@@ -18,7 +18,7 @@ use Rattle.records.proofs.Fields.{length-fields}
 use Rattle.records.proofs.Records.{length-record-more}
 use Rattle.automaton.specs.Automaton.{Rule, renamed, Automaton, WellFormed, WellFormedRule}
 use Rattle.automaton.specs.Table.{encodeRules, encode}
-use Rattle.automaton.proofs.Encoding.{length-rule}
+use Rattle.automaton.proofs.Encoding.{length-rules, length-encode}
 use Rattle.stages.specs.Steps.{Stage, foundIn, closure, buildable, productive, trimmed, below, representative, firsts, quotient}
 use Rattle.stages.specs.Steps.{pruned, needed, kept, restricted, position, numbered, shortened, reduce}
 use Rattle.stages.proofs.Trimming.{trimmed-sound}
@@ -74,20 +74,15 @@ record Smaller (us vs : List Rule) : Type 0 where
   count : length us ≤ length vs
   size : length (encodeRules us) ≤ length (encodeRules vs)
 
-rules-length : (u : Rule) (us : List Rule)
-    → length (encodeRules (u ∷ us)) ≡ 10 + 2 * length (u .children) + length (encodeRules us)
-unfolding encodeRules
-rules-length u us = rw length-append (omega (arith, length-rule u))
-
 smaller-trans : {us vs ws : List Rule} → Smaller us vs → Smaller vs ws → Smaller us ws
 smaller-trans a b = record { count = omega arith; size = omega arith }
 
 smaller-also : (u v : Rule) {us vs : List Rule} → length (u .children) ≡ length (v .children) → Smaller us vs
     → Smaller (u ∷ us) (v ∷ vs)
-smaller-also u v {us} {vs} e a = record { count = omega arith; size = omega (arith, rules-length u us, rules-length v vs) }
+smaller-also u v {us} {vs} e a = record { count = omega arith; size = omega (arith, length-rules u us, length-rules v vs) }
 
 smaller-skip : (v : Rule) {us vs : List Rule} → Smaller us vs → Smaller us (v ∷ vs)
-smaller-skip v {us} {vs} a = record { count = omega arith; size = omega (arith, rules-length v vs) }
+smaller-skip v {us} {vs} a = record { count = omega arith; size = omega (arith, length-rules v vs) }
 
 keep-smaller : (test : Rule → Bool) (us : List Rule) → Smaller (keep test us) us
 unfolding keep
@@ -107,11 +102,6 @@ renamed-smaller : (name : ℕ → ℕ) (us : List Rule) → Smaller (map (rename
 unfolding renamed
 renamed-smaller name [] = record { count = omega arith; size = omega arith }
 renamed-smaller name (u ∷ us) = smaller-also (renamed name u) u (length-map (u .children) name) (renamed-smaller name us)
-
-length-encode : (A : Automaton)
-    → length (encode A) ≡ 24 + length (A .ranks) + 2 * length (A .finals) + length (encodeRules (A .rules))
-unfolding encode
-length-encode A = simp (length-record-more, length-fields) (omega arith)
 
 -- The stages of a reduction.
 

@@ -6,7 +6,6 @@ use lib.ListN.{length}
 use mathlib.Core.Bool.{Bool, true, false, not, cond, _&&_, _||_}
 use lib.Dec.{eqb}
 use Rattle.lists.specs.Lists.{all, from, keep, any, among}
-use Rattle.records.specs.Read.{_>>=_}
 use Rattle.automaton.specs.Automaton.{Automaton, Rule, renamed}
 use Rattle.refinement.specs.Simulation.{Relation, related, matchedBy, relation, rounds}
 

@@ -9,6 +9,7 @@ use lib.ListN.{length}
 use lib.Dec.{eqb, ltb}
 use borrow.Author.Tests.{eq-eqb, eqb-true, ltb-true, lt-ltb}
 use Rattle.lists.specs.Lists.{empty, all, from, keep, any, among}
+use Rattle.lists.proofs.Mapping.{map-agree}
 use Rattle.lists.proofs.Booleans.{and-true-in, and-true-out, same-bool}
 use Rattle.lists.proofs.Elements.{all-member}
 use Rattle.lists.proofs.Keeping.{keep-agree, keep-out, keep-shorter}
@@ -32,7 +33,7 @@ use Rattle.stages.proofs.Numbering.{position-low, positions-rising}
 use Rattle.reduction.specs.Inner.{nameIn, marked, goesFor, stays, Holds, adds, grows}
 use Rattle.reduction.specs.declared.growth.Way.the-variants.{Up, Down}
 use Rattle.reduction.specs.declared.marking.Why.the-variants.{Repeated, Dominated}
-use Rattle.reduction.proofs.steps.StageArrays.{marked-rules, kept-rules, set-states, map-agree, renamed-agree}
+use Rattle.reduction.proofs.steps.StageArrays.{marked-rules, kept-rules, set-states, renamed-agree}
 
 -- Steps 1 and 5.
 

@@ -6,6 +6,7 @@ use mathlib.Core.Path.{_≡_, refl, sym, ap, ap₂, _∙_}
 use mathlib.Core.List.{List, [], _∷_, map, List·Memᴰ, List·Memᴰ·head, List·Memᴰ·tail}
 use mathlib.Core.Bool.{Bool}
 use Rattle.lists.specs.Lists.{Rising, from, keep, among}
+use Rattle.lists.proofs.Mapping.{map-agree}
 use Rattle.lists.proofs.Keeping.{keep-agree, keep-in, keep-map, keep-out}
 use Rattle.lists.proofs.Ranges.{from-rising, from-member, member-from}
 use Rattle.lists.proofs.Search.{among-in, among-out}
@@ -45,10 +46,6 @@ set-states words xs n few rising low has =
     among-out xs q (sym (has q (omega (arith, below-range n q (o .0)))) ∙ o .1))
     (λ q m. let l = low q m in
     keep-in (member words) (from-member n 0 q (omega arith) (omega arith)) (has q (omega arith) ∙ among-in m))
-
-pub map-agree : {A B : Type 0} (f g : A → B) (xs : List A) → ((x : A) → List·Memᴰ x xs → f x ≡ g x) → map f xs ≡ map g xs
-map-agree f g [] h = refl
-map-agree f g (x ∷ xs) h = ap₂ _∷_ (h x (List·Memᴰ·head refl)) (map-agree f g xs (λ y m. h y (List·Memᴰ·tail m)))
 
 pub renamed-agree : (f g : ℕ → ℕ) (S : Stage) → Sound S → ((q : ℕ) → List·Memᴰ q (S .states) → f q ≡ g q)
     → map (renamed f) (S .rules) ≡ map (renamed g) (S .rules)
