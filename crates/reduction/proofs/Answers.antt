@@ -1,4 +1,5 @@
--- The bytes that reducing a table writes: they are the encoding of the reduced automaton, which is read back from them.
+-- The bytes that reducing a table writes: they are the encoding of the reduced automaton, which is read back from them. For `reduce` and for
+-- demand 3.
 use Prim.Native.Nat.{ℕ, _≤_}
 use mathlib.Core.Path.{_≡_, refl, sym, ap, _∙_}
 use mathlib.Core.Logic.{inr}

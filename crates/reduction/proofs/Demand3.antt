@@ -1,4 +1,5 @@
--- Demand 3 of the bytes: the bytes that are written are read back as the reduced automaton, of which all of it holds.
+-- Demand 3 of the bytes: the bytes that are written are read back as the reduced automaton, of which all of it holds. From `Answers` and what
+-- `stages` proves of the steps; for `reduce` and the theorems.
 use Prim.Native.Nat.{ℕ, _≤_, _<_}
 use mathlib.Core.Path.{_≡_, refl, sym, ap, _∙_}
 use mathlib.Core.List.{List}

@@ -1,4 +1,5 @@
--- The relation is the largest simulation on the states: a simulation stays within every round. Its rounds are bounded.
+-- The relation is the largest simulation on the states: a simulation stays within every round. Its rounds are bounded. From `Refinement`; for
+-- the theorems on the preorder and for the steps of reduction.
 use Prim.Native.Nat.{ℕ, zero, suc, _+_, _*_, _-_, _≤_}
 use mathlib.Core.Path.{_≡_, refl, sym, _∙_}
 use mathlib.Core.List.{List, [], _∷_, map, List·Memᴰ, List·Memᴰ·head, List·Memᴰ·tail, Memᴰ·cast}

@@ -1,4 +1,5 @@
--- A pair that is not in the relation has a rule without a match; no pair stands twice, and the number of pairs is counted row by row.
+-- A pair that is not in the relation has a rule without a match; no pair stands twice, and the number of pairs is counted row by row. From
+-- `Refinement` and `Maximality`; for the two queries.
 use Prim.Native.Nat.{ℕ, zero, suc, _+_}
 use mathlib.Core.Path.{_≡_, refl, sym, ap, _∙_}
 use mathlib.Core.Logic.{_⊎_, inl, inr}

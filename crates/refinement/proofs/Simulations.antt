@@ -1,4 +1,5 @@
--- Lists related position by position, and simulations one after the other.
+-- Lists related position by position, and simulations one after the other. By induction on the lists; for `Maximality` and for the steps of
+-- reduction, which are simulations there and back.
 use Prim.Native.Nat.{ℕ}
 use mathlib.Core.Path.{refl, _∙_}
 use mathlib.Core.List.{List, [], _∷_, List·Memᴰ, List·Memᴰ·head, List·Memᴰ·tail}

@@ -1,4 +1,5 @@
--- Decimal numbers: a number's last digit is its remainder by 10, and the digits before it are those of its tenth part.
+-- Decimal numbers: a number's last digit is its remainder by 10, and the digits before it are those of its tenth part. For `Text` and the
+-- theorem on numerals.
 use Prim.Native.Nat.{ℕ, zero, suc, _+_, _-_, _*_, _/_, _%_, _^_, _≤_, _<_}
 use native.Mathlib.Nat.{pow-succ', one-le-pow}
 use native.Mathlib.Omega.{arith}

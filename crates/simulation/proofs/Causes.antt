@@ -1,4 +1,5 @@
--- With which causes a tree is refused, 8 to 11, and with which a check and the queries; and that a refusal leaves the output.
+-- With which causes a tree is refused, 8 to 11, and with which a check and the queries; and that a refusal leaves the output. By `search`, line
+-- by line of the definitions; for the theorems.
 use Prim.Native.Nat.{ℕ, _≤_}
 use native.Mathlib.Omega.{arith}
 use mathlib.Core.Path.{_≡_, refl}

@@ -1,4 +1,5 @@
--- Which answers the promise on the pair query allows: yes where q ≤ r; otherwise the number of each unmatched rule, and no other.
+-- Which answers the promise on the pair query allows: yes where q ≤ r; otherwise the number of each unmatched rule, and no other. For the
+-- examples of document 01.
 use Prim.Native.Nat.{ℕ, suc, _-_}
 use native.Mathlib.Omega.{arith}
 use mathlib.Core.Path.{_≡_, refl, sym, ap, _∙_}

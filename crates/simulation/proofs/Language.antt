@@ -1,4 +1,5 @@
--- Where a simulation relates q to r, a tree that reaches q reaches r: each rule of its run is answered, root first.
+-- Where a simulation relates q to r, a tree that reaches q reaches r: each rule of its run is answered, root first. From `Runs`; for the theorem
+-- on the preorder and for the steps of reduction.
 use Prim.Native.Nat.{ℕ}
 use mathlib.Core.Path.{refl, sym, _∙_}
 use mathlib.Core.List.{List}

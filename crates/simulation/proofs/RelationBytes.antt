@@ -1,4 +1,5 @@
--- A relation in words: a bit is a pair, the words' bytes are the rows, and the bits that are set are the pairs.
+-- A relation in words: a bit is a pair, the words' bytes are the rows, and the bits that are set are the pairs. From the laws of bits; for
+-- `Queries` and the functions that write rows and count pairs.
 use Prim.Native.Nat.{ℕ, zero, suc, _+_, _-_, _*_, _/_, _%_, _^_, _≤_, _<_}
 use mathlib.Core.Path.{_≡_, refl, sym, ap, ap₂, _∙_}
 use mathlib.Core.List.{List, [], _∷_, _++_, map, map-append}

@@ -1,4 +1,5 @@
--- Rules written in front over others: the first rows hold the new rules, and the rows that are still to be read hold the old ones.
+-- Rules written in front over others: the first rows hold the new rules, and the rows that are still to be read hold the old ones. For `compact`
+-- and `rename_rules`.
 use Prim.Native.Nat.{ℕ, _+_, _≤_, _<_}
 use native.Mathlib.Omega.{arith}
 use mathlib.Core.Path.{_≡_, refl, sym, ap, _∙_}
