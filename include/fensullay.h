@@ -153,7 +153,7 @@ uint32_t fensullay_compare(const uint8_t *table, size_t table_length, size_t q, 
  *   1 to 7       the table is refused; `out` and `numbers` stay
  *   13           `out` is shorter than the reduced table; it stays, and `numbers` too. An `out` as long as the table is never too short
  *   SHORT_ARRAY  fewer than 6 numbers; they stay, and `out` too
- * Stack: 32 KiB. No heap, no threads, no locale.
+ * Stack: 31 KiB. No heap, no threads, no locale.
  */
 uint32_t fensullay_reduce(
     const uint8_t *table, size_t table_length, uint8_t *out, size_t out_length, size_t *numbers, size_t numbers_length);
@@ -168,7 +168,7 @@ uint32_t fensullay_reduce(
  *   OK           `out` begins with the lines, also with those of a refused table, without a 0 after them; their length stands in `numbers`
  *   13           `out` is shorter than the lines; it stays, and `numbers` too
  *   SHORT_ARRAY  numbers_length is 0; `out` stays
- * Stack: 32 KiB. No heap, no threads, no locale.
+ * Stack: 31 KiB. No heap, no threads, no locale.
  */
 uint32_t fensullay_report(
     const uint8_t *input, size_t input_length, uint8_t *out, size_t out_length, size_t *numbers, size_t numbers_length);
