@@ -18,6 +18,10 @@
  * order. A table accepts a tree that belongs to a final state. State q is simulated by state r (q <= r) in the largest relation in which each
  * rule of q is matched by one rule of r: the same symbol, and each child <= the child in its place. Final states play no part in it.
  *
+ * A SUBTREE is a node of a tree, its top node, with all that is below it. It is given by `node`, the number of its top node in postfix order, counted
+ * from 0, and `size`, how many nodes it has. Its symbols stand together: they are the `size` symbols of the tree that end with number `node`. Symbol
+ * number i of a tree is the two bytes from byte 6 + 2 * i on.
+ *
  * WHAT A CALLER OWES. Any bytes will do as a table or a tree, any state number, any length; all are answered. But
  *   - a pointer and its length name memory that may be read, and written where the pointer is not const;
  *   - a pointer is never NULL, not even where its length is 0;
@@ -29,7 +33,8 @@
  *   1 to 13                       refused: the number of the cause, below
  *   FENSULLAY_SHORT_ARRAY (100)   the array for numbers or counts is too short; found before everything else
  *   FENSULLAY_NO (101)            no: not accepted, or not simulated
- * Refusals and SHORT_ARRAY leave `out` and `numbers` as they were, byte for byte. Of `counts` a check that refuses changes the third.
+ * Refusals and SHORT_ARRAY leave `out` and `numbers` as they were, byte for byte. SHORT_ARRAY leaves `counts` too; a check that refuses changes the
+ * third of them.
  * Elements of `out`, `numbers` and `counts` after those that a call writes keep what they held. Tables and trees are never written.
  *
  * The table is judged before the tree, the state numbers and the output. In each record of a table the causes come in the order 1, 2, 7 (a rule too
@@ -87,6 +92,7 @@ enum { FENSULLAY_REPORT_MAX = 64 };
 /* What stands where in the array for numbers or counts; the last name of each list is how many elements the call needs. */
 enum { FENSULLAY_JUDGE_STATES, FENSULLAY_JUDGE_SYMBOLS, FENSULLAY_JUDGE_RULES, FENSULLAY_JUDGE_NUMBERS };
 enum { FENSULLAY_CHECK_ACCEPTED, FENSULLAY_CHECK_REJECTED, FENSULLAY_CHECK_REFUSED, FENSULLAY_CHECK_COUNTS };
+enum { FENSULLAY_CHECK_NODE, FENSULLAY_CHECK_SIZE, FENSULLAY_CHECK_NUMBERS };
 enum { FENSULLAY_RELATE_ROUNDS, FENSULLAY_RELATE_PAIRS, FENSULLAY_RELATE_NUMBERS };
 enum { FENSULLAY_COMPARE_RULE, FENSULLAY_COMPARE_NUMBERS };
 enum {
@@ -112,15 +118,18 @@ uint32_t fensullay_judge(const uint8_t *table, size_t table_length, size_t *numb
 /*
  * Checks a tree against a table. `counts` holds how many checks were accepted, not accepted and refused, zeros at the start; the call adds one to
  * the count of its answer, also where it refuses. A count at 4,294,967,295 stays there.
- *   OK           accepted
- *   NO           not accepted
- *   1 to 7       the table is refused; it is judged before the tree
- *   8 to 11      the tree is refused
- *   SHORT_ARRAY  fewer than 3 counts; they stay, and nothing is counted
- * Stack: 47 KiB. No heap, no threads, no locale.
+ *   OK           accepted; `numbers` stays
+ *   NO           not accepted, and node and size of a subtree stand in `numbers`: of the first one in postfix order that belongs to no state, final or
+ *                not; or of the whole tree, if every subtree belongs to some state. All smaller subtrees in the named one belong to some state
+ *   1 to 7       the table is refused; it is judged before the tree. `numbers` stays
+ *   8 to 11      the tree is refused; `numbers` stays
+ *   SHORT_ARRAY  fewer than 3 counts or fewer than 2 numbers; both arrays stay, and nothing is counted
+ * The subtree is that of this table: with the reduced table a check may name another one.
+ * Stack: 49 KiB. No heap, no threads, no locale.
  */
 uint32_t fensullay_check(
-    uint32_t *counts, size_t counts_length, const uint8_t *table, size_t table_length, const uint8_t *tree, size_t tree_length);
+    uint32_t *counts, size_t counts_length, const uint8_t *table, size_t table_length, const uint8_t *tree, size_t tree_length,
+    size_t *numbers, size_t numbers_length);
 
 /*
  * Which states of a table are simulated by which.
@@ -146,7 +155,8 @@ uint32_t fensullay_relate(
 uint32_t fensullay_compare(const uint8_t *table, size_t table_length, size_t q, size_t r, size_t *numbers, size_t numbers_length);
 
 /*
- * Reduces a table: the reduced one accepts the same trees, and a check of any bytes gives the same answer and the same counts on both.
+ * Reduces a table: the reduced one accepts the same trees, and a check of any bytes returns the same number and gives the same counts on both. The
+ * subtrees that it names may differ.
  *   OK           `out` begins with the reduced table; its length, the states of the table and of the reduced one, the rules of both, and the rounds
  *                stand in `numbers`. The rounds are those of the simulation on what is left without the states to which no tree belongs: fensullay_relate
  *                may give another number for the same table

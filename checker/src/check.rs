@@ -1,10 +1,10 @@
-use crate::{Automaton, Refusal, Tree};
+use crate::{Automaton, Refusal, Subtree, Tree};
 
 /// What a check says of a tree.
 #[derive(Clone, Copy, Debug, PartialEq, Eq)]
 pub enum Answer {
     Accepted,
-    Rejected,
+    Rejected(Subtree),
     Refused(Refusal),
 }
 
@@ -21,7 +21,7 @@ impl Counts {
     pub fn after(mut self, answer: Answer) -> Self {
         let count = match answer {
             Answer::Accepted => &mut self.accepted,
-            Answer::Rejected => &mut self.rejected,
+            Answer::Rejected(_) => &mut self.rejected,
             Answer::Refused(_) => &mut self.refused,
         };
         *count = count.saturating_add(1);
@@ -31,16 +31,16 @@ impl Counts {
 
 /// Checks a tree against a table, and counts the answer.
 pub fn check(table: &[u8], tree: &[u8], counts: Counts) -> (Answer, Counts) {
-    let answer = match accepts(table, tree) {
-        Ok(true) => Answer::Accepted,
-        Ok(false) => Answer::Rejected,
+    let answer = match rejected_subtree(table, tree) {
+        Ok(None) => Answer::Accepted,
+        Ok(Some(subtree)) => Answer::Rejected(subtree),
         Err(refusal) => Answer::Refused(refusal),
     };
     (answer, counts.after(answer))
 }
 
-fn accepts(table: &[u8], tree: &[u8]) -> Result<bool, Refusal> {
+fn rejected_subtree(table: &[u8], tree: &[u8]) -> Result<Option<Subtree>, Refusal> {
     let automaton = Automaton::read(table)?;
     let tree = Tree::read(tree, &automaton.ranks)?;
-    Ok(automaton.accepts(tree))
+    Ok(automaton.rejected_subtree(tree))
 }

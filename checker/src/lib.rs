@@ -24,4 +24,4 @@ pub use refusal::Refusal;
 pub use report::{MAX_INPUT, report, report_on};
 pub use simulation::{Pair, Simulation};
 pub use state_set::StateSet;
-pub use tree::{MAX_NODES, MAX_WAITING, Tree};
+pub use tree::{MAX_NODES, MAX_WAITING, Subtree, Tree};

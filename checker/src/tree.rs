@@ -12,6 +12,15 @@ pub struct Tree<'a> {
     ranks: &'a [u8],
 }
 
+/// A node of a tree with all that is below it.
+#[derive(Clone, Copy, Debug, PartialEq, Eq)]
+pub struct Subtree {
+    /// The number of the node in postfix order, from 0.
+    pub node: usize,
+    /// How many nodes there are, the node itself among them.
+    pub size: usize,
+}
+
 impl<'a> Tree<'a> {
     /// Reads the tree that `bytes` are over symbols of these ranks, or says
     /// why they are none.
@@ -37,6 +46,18 @@ impl<'a> Tree<'a> {
         let symbols = self.nodes.iter().copied().map(u16::from_le_bytes);
         symbols.map(|symbol| (symbol, self.ranks[usize::from(symbol)]))
     }
+
+    /// The subtree of a node. Backwards from the node, each node is one of the
+    /// trees that are due, and makes its children due.
+    pub fn subtree(self, node: usize) -> Subtree {
+        let ranks: Vec<u8> = self.nodes().map(|(_, rank)| rank).collect();
+        let (mut first, mut due) = (node + 1, 1);
+        while due > 0 {
+            first -= 1;
+            due = due - 1 + usize::from(ranks[first]);
+        }
+        Subtree { node, size: node + 1 - first }
+    }
 }
 
 /// The body of the only record, in pairs of bytes.
@@ -50,14 +71,27 @@ fn body(bytes: &[u8]) -> Option<&[[u8; 2]]> {
 impl Automaton {
     /// Whether the automaton accepts a tree that was read with its ranks.
     pub fn accepts(&self, tree: Tree<'_>) -> bool {
+        self.rejected_subtree(tree).is_none()
+    }
+
+    /// Where to look in a tree that is not accepted: at its first subtree, in
+    /// postfix order, that belongs to no state, or at the whole tree if each
+    /// belongs to one. Of an accepted tree nothing.
+    pub fn rejected_subtree(&self, tree: Tree<'_>) -> Option<Subtree> {
         let states = BySymbol::new(self).evaluate(tree);
-        self.finals.iter().any(|&state| states.contains(state))
+        let top = states.len() - 1;
+        if self.finals.iter().any(|&state| states[top].contains(state)) {
+            return None;
+        }
+        let first = states.iter().position(StateSet::is_empty);
+        Some(tree.subtree(first.unwrap_or(top)))
     }
 }
 
 impl BySymbol {
-    /// The states that a tree belongs to.
-    pub fn evaluate(&self, tree: Tree<'_>) -> StateSet {
+    /// The states that each subtree belongs to, in postfix order.
+    pub fn evaluate(&self, tree: Tree<'_>) -> Vec<StateSet> {
+        let mut all = Vec::new();
         let mut stack: Vec<StateSet> = Vec::new();
         for (symbol, rank) in tree.nodes() {
             let first = stack.len() - usize::from(rank);
@@ -71,7 +105,8 @@ impl BySymbol {
             }
             stack.truncate(first);
             stack.push(states);
+            all.push(states);
         }
-        stack.pop().expect("a tree has a node")
+        all
     }
 }

@@ -1,6 +1,8 @@
 mod common;
 
-use checker::{Answer, Automaton, Counts, MAX_NODES, MAX_WAITING, Refusal, Rule, Tree, check};
+use checker::{
+    Answer, Automaton, Counts, MAX_NODES, MAX_WAITING, Refusal, Rule, Subtree, Tree, check,
+};
 use common::T;
 
 const A: u16 = 0;
@@ -29,8 +31,9 @@ fn number(bytes: &[u8]) -> u8 {
 #[test]
 fn b6_to_b8() {
     assert_eq!(answer(&tree(&[B, A, F])), Answer::Accepted);
-    assert_eq!(answer(&tree(&[A])), Answer::Rejected);
-    assert_eq!(answer(&tree(&[A, A, F, A, F])), Answer::Rejected);
+    assert_eq!(answer(&tree(&[A])), Answer::Rejected(Subtree { node: 0, size: 1 }));
+    let whole = Subtree { node: 4, size: 5 };
+    assert_eq!(answer(&tree(&[A, A, F, A, F])), Answer::Rejected(whole));
 }
 
 #[test]

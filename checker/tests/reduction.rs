@@ -1,4 +1,5 @@
 mod common;
+mod random;
 
 use std::collections::BTreeSet;
 
@@ -7,6 +8,7 @@ use checker::{
     report_on,
 };
 use common::T;
+use random::Random;
 
 /// What T reduces to.
 #[rustfmt::skip]
@@ -90,39 +92,6 @@ fn the_report_judges_the_first_bytes() {
     let more = [&longest[..], &[6, 0, 0, 0, 4, 0, 0, 0, 0, 0]].concat();
     assert_eq!(report_on(&more), "refused 1\n");
     assert_eq!(reduce(&more, &mut []), Err(Refusal::WrongRuleCount));
-}
-
-/// The xorshift generator of 64 bits with shifts 13, 7, 17.
-struct Random(u64);
-
-impl Random {
-    fn below(&mut self, bound: usize) -> usize {
-        self.0 ^= self.0 << 13;
-        self.0 ^= self.0 >> 7;
-        self.0 ^= self.0 << 17;
-        (self.0 >> 16) as usize % bound
-    }
-
-    fn state(&mut self, states: usize) -> u16 {
-        self.below(states) as u16
-    }
-
-    /// An automaton of up to so many states and rules.
-    fn automaton(&mut self, states: usize, rules: usize) -> Automaton {
-        let arities: [&[u8]; 7] =
-            [&[0, 0, 2], &[0, 1, 2], &[0, 0, 1, 2], &[0, 1], &[0, 0, 0], &[3, 0, 0], &[0, 1, 1]];
-        let ranks = arities[self.below(arities.len())].to_vec();
-        let n = self.below(states + 1);
-        let k = if n == 0 { 0 } else { self.below(rules + 1) };
-        let finals = (0..n as u16).filter(|_| self.below(3) == 0).collect();
-        let mut all = Vec::new();
-        for _ in 0..k {
-            let symbol = self.below(ranks.len());
-            let children: Vec<u16> = (0..ranks[symbol]).map(|_| self.state(n)).collect();
-            all.push(Rule::new(symbol as u16, self.state(n), &children));
-        }
-        Automaton { states: n, ranks, finals, rules: all }
-    }
 }
 
 type Pairs = BTreeSet<(u16, u16)>;

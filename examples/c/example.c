@@ -4,7 +4,7 @@
 #include "fensullay.h"
 
 /* A record is a length (4 bytes, of what follows it), a kind (2 bytes) and a body; all numbers are little-endian. */
-static const uint8_t table[] = {
+static const uint8_t bench[] = {
     8, 0, 0, 0, 1, 0, 5, 0, 3, 0, 8, 0,        /* 5 states, 3 symbols, 8 rules */
     5, 0, 0, 0, 2, 0, 0, 0, 2,                 /* symbols 0, 1, 2: a, b and f, of ranks 0, 0, 2 */
     4, 0, 0, 0, 3, 0, 3, 0,                    /* state 3 is final */
@@ -19,41 +19,49 @@ static const uint8_t table[] = {
 };
 
 /* A tree is one record of kind 16: the symbols of its nodes, each after its children. */
-static const uint8_t tree_fba[] = {8, 0, 0, 0, 16, 0, 1, 0, 0, 0, 2, 0}; /* f(b,a) */
-static const uint8_t tree_a[] = {4, 0, 0, 0, 16, 0, 0, 0};               /* a */
+static const uint8_t flat[] = {8, 0, 0, 0, 16, 0, 1, 0, 0, 0, 2, 0};                          /* f(b,a) */
+static const uint8_t deep[] = {16, 0, 0, 0, 16, 0, 0, 0, 0, 0, 2, 0, 0, 0, 2, 0, 1, 0, 2, 0}; /* f(f(f(a,a),a),b) */
 
-static const char *text(uint32_t answer)
+/* Checks a tree over a, b and f and prints the answer; of a tree that is not accepted also the subtree to look at. */
+static void check(
+    const char *name, uint32_t *counts, const uint8_t *table, size_t table_length, const uint8_t *tree, size_t tree_length)
 {
-    return answer == FENSULLAY_OK ? "accepted" : answer == FENSULLAY_NO ? "not accepted" : "refused";
+    size_t numbers[FENSULLAY_CHECK_NUMBERS];
+    uint32_t answer = fensullay_check(
+        counts, FENSULLAY_CHECK_COUNTS, table, table_length, tree, tree_length, numbers, FENSULLAY_CHECK_NUMBERS);
+    printf("%s: %s", name, answer == FENSULLAY_OK ? "accepted" : answer == FENSULLAY_NO ? "not accepted" : "refused");
+    if (answer == FENSULLAY_NO) {
+        size_t node = numbers[FENSULLAY_CHECK_NODE], size = numbers[FENSULLAY_CHECK_SIZE], i;
+        printf(", look at node %zu, size %zu:", node, size);
+        for (i = node + 1 - size; i <= node; i++) {
+            printf(" %c", "abf"[tree[6 + 2 * i] + 256 * tree[7 + 2 * i]]);
+        }
+    }
+    printf("\n");
 }
 
 int main(void)
 {
-    uint8_t reduced[sizeof table]; /* a reduced table is never longer than the table */
+    uint8_t reduced[sizeof bench]; /* a reduced table is never longer than the table */
     size_t numbers[FENSULLAY_REDUCE_NUMBERS];
     size_t length;
     uint32_t counts[FENSULLAY_CHECK_COUNTS] = {0};
-    uint32_t before, after;
 
-    uint32_t answer = fensullay_reduce(table, sizeof table, reduced, sizeof reduced, numbers, FENSULLAY_REDUCE_NUMBERS);
+    uint32_t answer = fensullay_reduce(bench, sizeof bench, reduced, sizeof reduced, numbers, FENSULLAY_REDUCE_NUMBERS);
     if (answer != FENSULLAY_OK) {
         printf("refused %u\n", (unsigned)answer);
         return 1;
     }
     length = numbers[FENSULLAY_REDUCE_LENGTH];
-    printf("bytes %zu %zu\n", sizeof table, length);
+    printf("bytes %zu %zu\n", sizeof bench, length);
     printf("states %zu %zu\n", numbers[FENSULLAY_REDUCE_OLD_STATES], numbers[FENSULLAY_REDUCE_NEW_STATES]);
     printf("rules %zu %zu\n", numbers[FENSULLAY_REDUCE_OLD_RULES], numbers[FENSULLAY_REDUCE_NEW_RULES]);
     printf("rounds %zu\n", numbers[FENSULLAY_REDUCE_ROUNDS]);
 
-    before = fensullay_check(counts, FENSULLAY_CHECK_COUNTS, table, sizeof table, tree_fba, sizeof tree_fba);
-    after = fensullay_check(counts, FENSULLAY_CHECK_COUNTS, reduced, length, tree_fba, sizeof tree_fba);
-    printf("f(b,a): %s, reduced: %s\n", text(before), text(after));
-
-    before = fensullay_check(counts, FENSULLAY_CHECK_COUNTS, table, sizeof table, tree_a, sizeof tree_a);
-    after = fensullay_check(counts, FENSULLAY_CHECK_COUNTS, reduced, length, tree_a, sizeof tree_a);
-    printf("a: %s, reduced: %s\n", text(before), text(after));
-
+    check("f(b,a)", counts, bench, sizeof bench, flat, sizeof flat);
+    check("f(b,a), reduced", counts, reduced, length, flat, sizeof flat);
+    check("f(f(f(a,a),a),b)", counts, bench, sizeof bench, deep, sizeof deep);
+    check("f(f(f(a,a),a),b), reduced", counts, reduced, length, deep, sizeof deep);
     printf("counts: accepted %u, not accepted %u, refused %u\n", (unsigned)counts[FENSULLAY_CHECK_ACCEPTED],
         (unsigned)counts[FENSULLAY_CHECK_REJECTED], (unsigned)counts[FENSULLAY_CHECK_REFUSED]);
     return 0;

@@ -12,7 +12,7 @@ use crate::{Lent, Library};
 #[derive(Clone, Debug, PartialEq, Eq)]
 pub enum Call {
     Judge { numbers: usize },
-    Check { counts: Vec<u32>, tree: Vec<u8> },
+    Check { counts: Vec<u32>, tree: Vec<u8>, numbers: usize },
     Relate { room: isize, numbers: usize },
     Compare { q: usize, r: usize, numbers: usize },
     Reduce { room: isize, numbers: usize },
@@ -23,7 +23,7 @@ pub enum Call {
 #[derive(Clone, Debug, PartialEq, Eq)]
 pub struct Outcome {
     pub answer: u32,
-    /// The lent numbers, or the counts.
+    pub counts: Vec<u32>,
     pub numbers: Vec<usize>,
     pub out: Vec<u8>,
     /// Whether the guards are as they were.
@@ -75,7 +75,7 @@ impl Call {
         let Loan { input, tree, out, numbers, counts } = loan;
         match *self {
             Self::Judge { .. } => library.judge(input, numbers),
-            Self::Check { .. } => library.check(counts, input, tree),
+            Self::Check { .. } => library.check(counts, input, tree, numbers),
             Self::Relate { .. } => library.relate(input, out, numbers),
             Self::Compare { q, r, .. } => library.compare(input, q, r, numbers),
             Self::Reduce { .. } => library.reduce(input, out, numbers),
@@ -104,11 +104,11 @@ impl Call {
     const fn numbers(&self) -> usize {
         match *self {
             Self::Judge { numbers }
+            | Self::Check { numbers, .. }
             | Self::Relate { numbers, .. }
             | Self::Compare { numbers, .. }
             | Self::Reduce { numbers, .. }
             | Self::Report { numbers, .. } => numbers,
-            Self::Check { .. } => 0,
         }
     }
 
@@ -164,10 +164,10 @@ pub struct Loan {
 
 impl Loan {
     fn outcome(&self, answer: u32, input: &[u8], tree: &[u8]) -> Outcome {
-        let counts = self.counts.content().iter().map(|&count| count as usize);
         Outcome {
             answer,
-            numbers: self.numbers.content().iter().copied().chain(counts).collect(),
+            counts: self.counts.content().to_vec(),
+            numbers: self.numbers.content().to_vec(),
             out: self.out.content().to_vec(),
             guarded: self.guarded(),
             kept: self.input.content() == input && self.tree.content() == tree,

@@ -1,7 +1,8 @@
 use checker::MAX_INPUT;
 
 use crate::library::{
-    CHECK_COUNTS, COMPARE_NUMBERS, JUDGE_NUMBERS, REDUCE_NUMBERS, RELATE_NUMBERS, REPORT_NUMBERS,
+    CHECK_COUNTS, CHECK_NUMBERS, COMPARE_NUMBERS, JUDGE_NUMBERS, REDUCE_NUMBERS, RELATE_NUMBERS,
+    REPORT_NUMBERS,
 };
 use crate::random::Random;
 use crate::tables::Drawn;
@@ -25,7 +26,8 @@ fn checks(random: &mut Random, family: Family, drawn: &Drawn) -> Vec<Call> {
     let trees = Trees::new(&drawn.automaton);
     let mut check = || {
         let tree = if family == Family::Trees { at_limit(random) } else { trees.draw(random) };
-        Call::Check { counts: counts(random), tree }
+        let numbers = array_length(random, CHECK_NUMBERS);
+        Call::Check { counts: counts(random), tree, numbers }
     };
     (0..3).map(|_| check()).collect()
 }

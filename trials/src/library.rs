@@ -12,6 +12,7 @@ pub const RELATION_ROW: usize = 32;
 /// How many numbers each call needs.
 pub const JUDGE_NUMBERS: usize = 3;
 pub const CHECK_COUNTS: usize = 3;
+pub const CHECK_NUMBERS: usize = 2;
 pub const RELATE_NUMBERS: usize = 2;
 pub const COMPARE_NUMBERS: usize = 1;
 pub const REDUCE_NUMBERS: usize = 6;
@@ -22,7 +23,13 @@ pub const REPORT_NUMBERS: usize = 1;
 pub trait Library {
     fn judge(&self, table: &mut Lent<u8>, numbers: &mut Lent<usize>) -> u32;
 
-    fn check(&self, counts: &mut Lent<u32>, table: &mut Lent<u8>, tree: &mut Lent<u8>) -> u32;
+    fn check(
+        &self,
+        counts: &mut Lent<u32>,
+        table: &mut Lent<u8>,
+        tree: &mut Lent<u8>,
+        numbers: &mut Lent<usize>,
+    ) -> u32;
 
     fn relate(&self, table: &mut Lent<u8>, out: &mut Lent<u8>, numbers: &mut Lent<usize>) -> u32;
 

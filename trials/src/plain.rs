@@ -1,4 +1,4 @@
-use checker::{Answer, Automaton, Counts, Pair, Reduced, Refusal, Simulation};
+use checker::{Answer, Automaton, Counts, Pair, Reduced, Refusal, Simulation, Subtree};
 
 use crate::library::{NO, OK, SHORT, answer, number};
 use crate::{Lent, Library};
@@ -15,15 +15,25 @@ impl Library for Plain {
         })
     }
 
-    fn check(&self, counts: &mut Lent<u32>, table: &mut Lent<u8>, tree: &mut Lent<u8>) -> u32 {
-        let Some(place) = counts.content_mut().first_chunk_mut() else { return SHORT };
-        let [accepted, rejected, refused] = *place;
+    fn check(
+        &self,
+        counts: &mut Lent<u32>,
+        table: &mut Lent<u8>,
+        tree: &mut Lent<u8>,
+        numbers: &mut Lent<usize>,
+    ) -> u32 {
+        let Some(counts) = counts.content_mut().first_chunk_mut() else { return SHORT };
+        let Some(place) = numbers.content_mut().first_chunk_mut() else { return SHORT };
+        let [accepted, rejected, refused] = *counts;
         let before = Counts { accepted, rejected, refused };
         let (answer, after) = checker::check(table.content(), tree.content(), before);
-        *place = [after.accepted, after.rejected, after.refused];
+        *counts = [after.accepted, after.rejected, after.refused];
         match answer {
             Answer::Accepted => OK,
-            Answer::Rejected => NO,
+            Answer::Rejected(Subtree { node, size }) => {
+                *place = [node, size];
+                NO
+            }
             Answer::Refused(refusal) => number(refusal),
         }
     }

@@ -15,7 +15,13 @@ impl Library for Proved {
         }
     }
 
-    fn check(&self, counts: &mut Lent<u32>, table: &mut Lent<u8>, tree: &mut Lent<u8>) -> u32 {
+    fn check(
+        &self,
+        counts: &mut Lent<u32>,
+        table: &mut Lent<u8>,
+        tree: &mut Lent<u8>,
+        numbers: &mut Lent<usize>,
+    ) -> u32 {
         unsafe {
             sys::fensullay_check(
                 counts.start(),
@@ -24,6 +30,8 @@ impl Library for Proved {
                 table.length(),
                 tree.start(),
                 tree.length(),
+                numbers.start(),
+                numbers.length(),
             )
         }
     }

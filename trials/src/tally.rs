@@ -15,6 +15,12 @@ pub struct Tally {
     pub calls: u64,
     families: [u64; Family::ALL.len()],
     answers: [[u64; ANSWERS]; Call::NAMES.len()],
+    /// How often a check named a subtree that is smaller than the tree.
+    pub smaller_subtrees: u64,
+    /// How often a check named the whole tree.
+    pub whole_trees: u64,
+    /// How often a check with the reduced table named another subtree.
+    pub other_subtrees: u64,
     reduced: u64,
     shorter: u64,
     fewer_states: u64,
@@ -30,6 +36,9 @@ impl Default for Tally {
             calls: 0,
             families: [0; _],
             answers: [[0; _]; _],
+            smaller_subtrees: 0,
+            whole_trees: 0,
+            other_subtrees: 0,
             reduced: 0,
             shorter: 0,
             fewer_states: 0,
@@ -49,6 +58,17 @@ impl Tally {
     pub fn call(&mut self, call: &Call, answer: u32) {
         self.calls += 1;
         self.answers[call.index()][answer as usize] += 1;
+    }
+
+    /// Counts a tree of so many nodes that was not accepted, with the numbers of
+    /// the checks on the table and on the reduced one.
+    pub fn subtree(&mut self, nodes: usize, numbers: &[usize], on_reduced: &[usize]) {
+        let (&[node, size, ..], &[other_node, other_size, ..]) = (numbers, on_reduced) else {
+            return;
+        };
+        self.smaller_subtrees += u64::from(size < nodes);
+        self.whole_trees += u64::from(size == nodes);
+        self.other_subtrees += u64::from((node, size) != (other_node, other_size));
     }
 
     /// Counts a table that was reduced, with the numbers of the call.
@@ -82,6 +102,11 @@ impl fmt::Display for Tally {
             let answers = answers.map(|(answer, count)| format!("{answer}: {count}"));
             writeln!(f, "{name:<14} {}", answers.collect::<Vec<_>>().join(", "))?;
         }
+        writeln!(
+            f,
+            "subtrees       {} smaller than the tree, {} the whole tree; {} others of the reduced table",
+            self.smaller_subtrees, self.whole_trees, self.other_subtrees
+        )?;
         writeln!(
             f,
             "reduced        {} tables: {} shorter, {} of fewer states, {} of fewer rules, {} of no state",

@@ -19,8 +19,8 @@ impl fmt::Display for Call {
         write!(f, "{}", self.name())?;
         match self {
             Self::Judge { numbers } => write!(f, " {numbers}"),
-            Self::Check { counts, tree } => {
-                write!(f, " {}", hex(tree))?;
+            Self::Check { counts, tree, numbers } => {
+                write!(f, " {} {numbers}", hex(tree))?;
                 counts.iter().try_for_each(|count| write!(f, " {count}"))
             }
             Self::Relate { room, numbers } | Self::Reduce { room, numbers } => {
@@ -86,9 +86,9 @@ fn call(name: &str, fields: &mut SplitWhitespace) -> Option<Call> {
     Some(match name {
         "judge" => Call::Judge { numbers: number(fields)? },
         "check" => {
-            let tree = unhex(fields.next()?)?;
+            let (tree, numbers) = (unhex(fields.next()?)?, number(fields)?);
             let counts: Result<_, _> = fields.map(str::parse).collect();
-            Call::Check { counts: counts.ok()?, tree }
+            Call::Check { counts: counts.ok()?, tree, numbers }
         }
         "relate" => Call::Relate { room: number(fields)?, numbers: number(fields)? },
         "compare" => {
@@ -132,7 +132,17 @@ mod tests {
 
     #[test]
     fn other_lines_are_refused() {
-        for line in ["judge", "judge 3 3", "table 0", "table 0g", "family none", "reduce a 6", ""] {
+        let lines = [
+            "judge",
+            "judge 3 3",
+            "check -",
+            "table 0",
+            "table 0g",
+            "family none",
+            "reduce a 6",
+            "",
+        ];
+        for line in lines {
             assert!(Case::from_str(&format!("{line}\n")).is_err(), "{line}");
         }
     }

@@ -1,4 +1,4 @@
-use checker::{Automaton, MAX_NODES, MAX_WAITING, Rule};
+use checker::{Automaton, MAX_NODES, MAX_WAITING, Rule, Subtree, Tree};
 
 use crate::damage::damage;
 use crate::layout::tree;
@@ -20,11 +20,15 @@ impl<'a> Trees<'a> {
         Self { automaton, smallest: smallest(automaton) }
     }
 
-    /// A tree, accepted on purpose half of the time, and damaged one time out of
-    /// five.
+    /// Any tree, an accepted one, or an accepted one with another subtree in it;
+    /// damaged one time out of five.
     pub fn draw(&self, random: &mut Random) -> Vec<u8> {
-        let accepted = if random.one_in(2) { self.accepted(random) } else { None };
+        let kind = random.below(3);
+        let accepted = if kind > 0 { self.accepted(random) } else { None };
         let mut symbols = accepted.unwrap_or_else(|| self.any(random));
+        if kind > 1 {
+            self.change_subtree(random, &mut symbols);
+        }
         if random.one_in(5) {
             change_nodes(random, self.automaton.ranks.len(), &mut symbols);
         }
@@ -69,6 +73,15 @@ impl<'a> Trees<'a> {
         let fits = |rule: &&Rule| rule.target == state && rule.children().iter().all(grown);
         let rules: Vec<&Rule> = self.automaton.rules.iter().filter(fits).collect();
         random.pick(&rules)
+    }
+
+    /// Puts any tree in the place of a subtree, if the symbols are a tree's.
+    fn change_subtree(&self, random: &mut Random, symbols: &mut Vec<u16>) {
+        let bytes = tree(symbols);
+        if let Ok(tree) = Tree::read(&bytes, &self.automaton.ranks) {
+            let Subtree { node, size } = tree.subtree(random.below(symbols.len()));
+            symbols.splice(node + 1 - size..=node, self.any(random));
+        }
     }
 
     /// Any tree over the symbols, or any symbols if none is a leaf.
@@ -152,7 +165,9 @@ fn change_nodes(random: &mut Random, symbol_count: usize, symbols: &mut Vec<u16>
 }
 
 /// A tree at a limit over symbols of which 0 is a leaf, 1 unary and 2 binary:
-/// first leaves that wait, then all of them joined, then unary nodes.
+/// first leaves that wait, then all of them joined, then unary nodes. Half of
+/// the time one or two nodes have a symbol of the same rank without rules, which
+/// is three higher.
 pub fn at_limit(random: &mut Random) -> Vec<u8> {
     let waiting = if random.one_in(2) { MAX_WAITING - 1 + random.below(3) } else { 1 };
     let joined = 2 * waiting - 1;
@@ -164,8 +179,14 @@ pub fn at_limit(random: &mut Random) -> Vec<u8> {
     let mut symbols = vec![0; waiting];
     symbols.resize(joined, 2);
     symbols.resize(nodes, 1);
+    if random.one_in(2) {
+        for _ in 0..random.between(1, 2) {
+            let place = random.below(nodes);
+            symbols[place] = 3 + symbols[place] % 3;
+        }
+    }
     if random.one_in(4) {
-        change_nodes(random, 3, &mut symbols);
+        change_nodes(random, 6, &mut symbols);
     }
     tree(&symbols)
 }

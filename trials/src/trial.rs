@@ -3,9 +3,9 @@ use std::fmt;
 use checker::{Automaton, Rule, Simulation};
 
 use crate::call::{Outcome, Sizes};
-use crate::library::{NO, OK, REDUCE_NUMBERS};
+use crate::library::{CHECK_NUMBERS, NO, OK, REDUCE_NUMBERS};
 use crate::text::hex;
-use crate::{Call, Case, Library, Plain, Tally};
+use crate::{Call, Case, Library, Plain, Tally, layout};
 
 /// What should be alike and is not.
 #[derive(Clone, Debug)]
@@ -41,8 +41,12 @@ pub fn run(library: &dyn Library, case: &Case, tally: &mut Tally) -> Result<(), 
     let sizes = Sizes::of(table);
     for call in &case.calls {
         let outcome = trial.side_by_side(call, table, sizes)?;
-        if let (Call::Check { .. }, Some(reduced)) = (call, &reduced) {
-            trial.check_reduced(call, &reduced.out, &outcome)?;
+        if let (Call::Check { tree, .. }, Some(reduced)) = (call, &reduced) {
+            let on_reduced = trial.check_reduced(call, &reduced.out, &outcome)?;
+            if outcome.answer == NO {
+                let nodes = layout::symbols(tree).map_or(0, |symbols| symbols.len());
+                trial.tally.subtree(nodes, &outcome.numbers, &on_reduced.numbers);
+            }
         }
     }
     Ok(())
@@ -100,24 +104,40 @@ impl Trial<'_> {
         Err(Disagreement { kind: Kind { call: "reduce", part: "again" }, detail })
     }
 
-    /// A check answers and counts alike on the table and on the reduced one.
+    /// A check answers and counts alike on the table and on the reduced one. The
+    /// subtree that it names there may be another, but is the checker's too.
     fn check_reduced(
         &mut self,
         check: &Call,
         reduced: &[u8],
         on_table: &Outcome,
-    ) -> Result<(), Disagreement> {
+    ) -> Result<Outcome, Disagreement> {
         let sizes = Sizes { relation: 0, reduced: 0 };
         let on_reduced = check.perform(self.library, reduced, sizes, self.fill);
         self.tally.calls += 1;
-        match difference(&on_reduced, on_table) {
-            None => Ok(()),
+        let [left, right] = [&on_reduced, on_table].map(without_subtree);
+        if let Some((_, [left, right])) = difference(&left, &right) {
+            let detail = format!("reduced table {left}, table {right}");
+            return Err(disagreement(check, "reduced table", detail));
+        }
+        let plain = check.perform(&Plain, reduced, sizes, self.fill);
+        match difference(&on_reduced, &plain) {
+            None => Ok(on_reduced),
             Some((_, [left, right])) => {
-                let detail = format!("reduced table {left}, table {right}");
-                Err(disagreement(check, "reduced table", detail))
+                let detail = format!("library {left}, checker {right}");
+                Err(disagreement(check, "reduced table's subtree", detail))
             }
         }
     }
+}
+
+/// The outcome of a check but for the subtree that it names.
+fn without_subtree(outcome: &Outcome) -> Outcome {
+    let mut outcome = outcome.clone();
+    if outcome.answer == NO {
+        outcome.numbers.iter_mut().take(CHECK_NUMBERS).for_each(|number| *number = 0);
+    }
+    outcome
 }
 
 fn disagreement(call: &Call, part: &'static str, detail: String) -> Disagreement {
@@ -159,6 +179,8 @@ fn difference(left: &Outcome, right: &Outcome) -> Option<(&'static str, [String;
     let both = [left, right];
     if left.answer != right.answer {
         Some(("answer", both.map(|outcome| outcome.answer.to_string())))
+    } else if left.counts != right.counts {
+        Some(("counts", both.map(|outcome| format!("{:?}", outcome.counts))))
     } else if left.numbers != right.numbers {
         Some(("numbers", both.map(|outcome| format!("{:?}", outcome.numbers))))
     } else if left.out != right.out {

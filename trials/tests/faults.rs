@@ -44,9 +44,9 @@ fn finds(fault: Fault, call: &'static str, part: &'static str, table: usize) {
 
 #[test]
 fn counts() {
-    finds(Fault::AcceptedTwice, "check", "numbers", 40);
-    finds(Fault::CountWraps, "check", "numbers", 40);
-    finds(Fault::RefusalNotCounted, "check", "numbers", 40);
+    finds(Fault::AcceptedTwice, "check", "counts", 40);
+    finds(Fault::CountWraps, "check", "counts", 40);
+    finds(Fault::RefusalNotCounted, "check", "counts", 40);
 }
 
 #[test]
@@ -98,6 +98,26 @@ fn rules_of_a_pair() {
 #[test]
 fn reduced_tables() {
     finds(Fault::ReducedTableRejects, "check", "reduced table", 60);
+    finds(Fault::WholeTreeOfReduced, "check", "reduced table's subtree", 60);
+}
+
+#[test]
+fn subtrees() {
+    finds(Fault::NodeFromOne, "check", "numbers", 40);
+    finds(Fault::SizeWithoutTop, "check", "numbers", 40);
+    finds(Fault::LastSubtree, "check", "numbers", 40);
+    finds(Fault::WholeTree, "check", "numbers", 40);
+    finds(Fault::SubtreeWithoutFinal, "check", "numbers", 60);
+    finds(Fault::SubtreeOfReduced, "check", "numbers", 60);
+}
+
+#[test]
+fn numbers_of_a_check_that_stay() {
+    finds(Fault::SubtreeOfAccepted, "check", "numbers", 40);
+    finds(Fault::SubtreeOfRefused, "check", "numbers", 40);
+    finds(Fault::NumberBehindSubtree, "check", "numbers", 40);
+    finds(Fault::CountedWhenShort, "check", "counts", 40);
+    finds(Fault::SubtreeWhenShort, "check", "numbers", 40);
 }
 
 #[test]
@@ -121,6 +141,8 @@ fn the_checker_agrees_with_itself_and_gives_every_answer() {
             assert!(tally.answered(call, answer) > 0, "{call} never answers {answer}");
         }
     }
+    let named = [tally.smaller_subtrees, tally.whole_trees, tally.other_subtrees];
+    assert!(named.iter().all(|&count| count > CASES / 20), "{named:?}");
 }
 
 #[test]

@@ -2,7 +2,7 @@
 //! Each call is one of the proved static library; here its answers get names.
 //!
 //! ```
-//! use fensullay::{Answer, Counts, check, reduced};
+//! use fensullay::{Answer, Counts, Subtree, check, reduced, subtree_symbols};
 //!
 //! let table = [
 //!     8, 0, 0, 0, 1, 0, 5, 0, 3, 0, 8, 0, // 5 states, 3 symbols, 8 rules
@@ -26,6 +26,12 @@
 //! let second = check(first.counts, &shorter, &tree);
 //! assert_eq!((first.answer, second.answer), (Answer::Accepted, Answer::Accepted));
 //! assert_eq!(second.counts, Counts { accepted: 2, rejected: 0, refused: 0 });
+//!
+//! // f(f(f(a, a), a), b), in which f(f(a, a), a) belongs to no state
+//! let tree = [16, 0, 0, 0, 16, 0, 0, 0, 0, 0, 2, 0, 0, 0, 2, 0, 1, 0, 2, 0];
+//! let subtree = Subtree { node: 4, size: 5 };
+//! assert_eq!(check(second.counts, &table, &tree).answer, Answer::Rejected(subtree));
+//! assert_eq!(subtree_symbols(&tree, subtree), Some(vec![0, 0, 2, 0, 2]));
 //! # Ok::<(), fensullay::Refusal>(())
 //! ```
 
@@ -47,6 +53,9 @@ pub const RELATION_MAX: usize = 8_192;
 
 /// A report has at most this many bytes.
 pub const REPORT_MAX: usize = 64;
+
+/// The length and the kind at the start of a record have this many bytes.
+const RECORD_HEAD: usize = 6;
 
 /// The numbers of a table.
 #[derive(Clone, Copy, Debug, PartialEq, Eq)]
@@ -89,13 +98,25 @@ impl Counts {
     }
 }
 
+/// A node of a tree with all that is below it: in postfix order, the `size` nodes that end with
+/// number `node`.
+#[derive(Clone, Copy, Debug, PartialEq, Eq)]
+pub struct Subtree {
+    /// The number of its top node in postfix order, from 0.
+    pub node: usize,
+    /// How many nodes it has.
+    pub size: usize,
+}
+
 /// What a check says of a tree.
 #[derive(Clone, Copy, Debug, PartialEq, Eq)]
 pub enum Answer {
     /// The table accepts the tree.
     Accepted,
-    /// The table does not accept the tree.
-    Rejected,
+    /// The table does not accept the tree. The subtree is the first in postfix order that belongs
+    /// to no state, or the whole tree where every subtree belongs to one; all smaller subtrees in
+    /// it belong to some state. A reduced table may name another subtree.
+    Rejected(Subtree),
     /// The table, or else the tree, is refused.
     Refused(Refusal),
 }
@@ -110,27 +131,42 @@ pub struct Checked {
     pub answer: Answer,
 }
 
-/// Checks a tree against a table, which is judged first.
+/// Checks a tree against a table, which is judged first. Of a tree that is not accepted the answer
+/// names the subtree to look at.
 pub fn check(counts: Counts, table: &[u8], tree: &[u8]) -> Checked {
-    let mut numbers = [counts.accepted, counts.rejected, counts.refused];
+    let mut after = [counts.accepted, counts.rejected, counts.refused];
+    let mut numbers = [0; 2];
     // SAFETY: each pointer and its length are those of a slice, and the slices are apart.
     let code = unsafe {
         sys::fensullay_check(
-            numbers.as_mut_ptr(),
-            numbers.len(),
+            after.as_mut_ptr(),
+            after.len(),
             table.as_ptr(),
             table.len(),
             tree.as_ptr(),
             tree.len(),
+            numbers.as_mut_ptr(),
+            numbers.len(),
         )
     };
+    let [node, size] = numbers;
     let answer = match code {
         sys::OK => Answer::Accepted,
-        sys::NO => Answer::Rejected,
+        sys::NO => Answer::Rejected(Subtree { node, size }),
         _ => Answer::Refused(refusal(code)),
     };
-    let [accepted, rejected, refused] = numbers;
+    let [accepted, rejected, refused] = after;
     Checked { counts: Counts { accepted, rejected, refused }, answer }
+}
+
+/// The symbols of a subtree in postfix order, from the bytes of its tree; `None` if the size is 0
+/// or the bytes have no such nodes. The bytes are not judged.
+pub fn subtree_symbols(tree: &[u8], subtree: Subtree) -> Option<Vec<u16>> {
+    let (nodes, _) = tree.get(RECORD_HEAD..)?.as_chunks();
+    let end = subtree.node.checked_add(1)?;
+    let start = end.checked_sub(subtree.size)?;
+    let nodes = nodes.get(start..end).filter(|nodes| !nodes.is_empty())?;
+    Some(nodes.iter().copied().map(u16::from_le_bytes).collect())
 }
 
 /// What there is to say of the relation that `relate` writes.

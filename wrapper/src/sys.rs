@@ -17,7 +17,8 @@ unsafe extern "C" {
         numbers: *mut usize,
         numbers_length: usize,
     ) -> u32;
-    /// Checks a tree against a table; `counts` holds 3: accepted, not accepted, refused.
+    /// Checks a tree against a table; `counts` holds 3: accepted, not accepted, refused. If it is
+    /// not accepted, `numbers` gets 2 numbers: the node and the size of a subtree.
     pub fn fensullay_check(
         counts: *mut u32,
         counts_length: usize,
@@ -25,6 +26,8 @@ unsafe extern "C" {
         table_length: usize,
         tree: *const u8,
         tree_length: usize,
+        numbers: *mut usize,
+        numbers_length: usize,
     ) -> u32;
     /// Writes which states are simulated by which; `numbers` gets 2 numbers: rounds, pairs.
     pub fn fensullay_relate(

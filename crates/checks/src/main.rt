@@ -1,4 +1,5 @@
-// Reads cases from standard input, each a table, a tree and three counts, and writes the answer of a check and the counts after it.
+// Reads cases from standard input, each a table, a tree and three counts, and writes the answer of a check, with the subtree that it names, and the
+// counts after it.
 // A case: its name, after a byte of length; the table and the tree, each after four bytes of length; the counts, four bytes each.
 use automaton::number;
 use cases::end_line;
@@ -59,7 +60,11 @@ fn report(counts: Counts, table: &[u8], tree: &[u8]) -> bool {
     let answer = checked.answer;
     match answer {
         Answer::Accepted => write_word(b"accepted"),
-        Answer::Rejected => write_word(b"rejected"),
+        Answer::Rejected { node, size } => {
+            write_word(b"rejected");
+            write_number(node);
+            write_number(size);
+        }
         Answer::Refused(cause) => {
             write_word(b"refused");
             write_number(number(cause) as usize);

@@ -35,6 +35,22 @@ module _ {A : Type 0} {need : ℕ} (codeOf : A → ℕ) (numbersOf : A → List 
   unfolding ended
   found-with h e put over = rw (enough-room h, ← e, put, over) (refl, (refl, refl))
 
+-- The code and the numbers do not depend on the output.
+module _ {A : Type 0} (need : ℕ) (codeOf : A → ℕ) (numbersOf : A → List ℕ) (x : Read A) (numbers : List ℕ) where
+  abbrev call : Bool → Read A → List ℕ → List ℕ → Exported
+  call t y out after = cond t (ended codeOf numbersOf y numbers after) (record { code = 100; numbers = numbers; out = out })
+
+  pub output-aside : (out after out′ after′ : List ℕ)
+      → (exported need codeOf numbersOf x numbers out after .code ≡ exported need codeOf numbersOf x numbers out′ after′ .code)
+      × (exported need codeOf numbersOf x numbers out after .numbers ≡ exported need codeOf numbersOf x numbers out′ after′ .numbers)
+  unfolding exported ended
+  output-aside out after out′ after′ = go (leb need (length numbers)) x
+    where
+      go : (t : Bool) (y : Read A) → (call t y out after .code ≡ call t y out′ after′ .code) × (call t y out after .numbers ≡ call t y out′ after′ .numbers)
+      go true (found a) = (refl, refl)
+      go true (refused cause) = (refl, refl)
+      go false y = (refl, refl)
+
 -- A call that does some work and does not return 0 has too short an array for its numbers, or refuses.
 module _ {A : Type 0} (need : ℕ) (numbersOf : A → List ℕ) (x : Read A) (numbers out after : List ℕ) where
   abbrev end : Bool → Read A → Exported

@@ -1,3 +1,4 @@
 pub mod Exported
+pub mod Checking
 pub mod ReturnCodes
 pub mod Theorems

@@ -1,8 +1,11 @@
 -- What a caller of the C interface concludes from the number that it gets and from what the call left, over the definitions of specs/ alone.
 use Prim.Native.Nat.{ℕ, _≤_, _<_}
+use native.Mathlib.Decide.{decLe, ℕ-discrete}
 use native.Mathlib.Omega.{arith}
 use mathlib.Core.Path.{_≡_, refl, sym, _∙_}
-use mathlib.Core.List.{List, [], _++_}
+use mathlib.Core.Logic.{_⊎_, inl, inr, _↔_}
+use mathlib.Core.Bool.{false}
+use mathlib.Core.List.{List, [], _∷_, _++_}
 use lib.ListN.{length, take, drop, getD}
 use Rattle.records.specs.Read.{Read, found, refused, mapRead}
 use Rattle.records.specs.Output.{written}
@@ -13,10 +16,11 @@ use Rattle.automaton.specs.Decoded.{sizeOf, sized}
 use Rattle.automaton.specs.declared.table.Size.{Size}
 use Rattle.automaton.proofs.TableCauses.{table-causes}
 use Rattle.automaton.proofs.Theorems.{writing-leaves}
-use Rattle.simulation.specs.Check.{acceptance}
+use Rattle.trees.specs.Subtree.{Finding, accepted, rejected, isAccepted}
+use Rattle.simulation.specs.Check.{acceptance, finding}
 use Rattle.simulation.specs.Query.{relationQuery, pairQuery}
 use Rattle.simulation.proofs.Causes.{acceptance-causes, relation-causes, pair-causes}
-use Rattle.simulation.proofs.Theorems.{relation-leaves}
+use Rattle.simulation.proofs.Theorems.{finding-acceptance, relation-leaves}
 use Rattle.reduction.specs.Reduce.{reduction}
 use Rattle.reduction.specs.Demand3.{Demand3}
 use Rattle.reduction.specs.declared.reducing.Reduction.{Reduction}
@@ -24,10 +28,11 @@ use Rattle.reduction.proofs.Answers.{reduction-causes}
 use Rattle.reduction.proofs.Theorems.{reduction-leaves, demand-3}
 use Rattle.reporting.specs.Report.{report}
 use Rattle.reporting.proofs.Reporting as reports
-use Rattle.fensullay.specs.Exports.{ended, exported, done, judging, checking, relating, compareCode, ComparesInto, reductionNumbers}
+use Rattle.fensullay.specs.Exports.{ended, exported, done, judging, subtreeAfter, checking, relating, compareCode, ComparesInto, reductionNumbers}
 use Rattle.fensullay.specs.Exports.{reducing, reporting}
-use Rattle.fensullay.specs.Means.{UpTo, UpToOr, WorkMeans, YesNoMeans}
-use Rattle.fensullay.proofs.Exported.{too-few, found-with, leaves}
+use Rattle.fensullay.specs.Means.{UpTo, UpToOr, WorkMeans, YesNoMeans, NamesSubtree}
+use Rattle.fensullay.proofs.Checking.{rejected-found, check-roomy, check-few, check-subtree}
+use Rattle.fensullay.proofs.Exported.{found-with, output-aside, leaves}
 use Rattle.fensullay.proofs.ReturnCodes.{up-to-or, work-means, yes-no-means}
 
 judged-code : (x : Read Automaton) (numbersOf : Size → List ℕ) (numbers : List ℕ)
@@ -41,10 +46,21 @@ pub judge-means : (table numbers : List ℕ) → WorkMeans (UpTo 7) 3 numbers (j
 unfolding judging
 judge-means table numbers = rw judged-code (work-means (λ cause p. omega arith) _ _ _ _ [] [] (table-causes table))
 
--- A check refuses by 1 to 11.
-pub check-means : (counts table tree : List ℕ) → YesNoMeans (UpTo 11) 3 counts (acceptance table tree) (checking counts table tree .code)
-unfolding checking
-check-means counts table tree = yes-no-means (λ cause p. omega arith) _ _ _ _ _ _ (acceptance-causes table tree)
+-- A check refuses by 1 to 11. It has two arrays: 100 says that one of them is too short.
+pub check-means : (counts table tree numbers : List ℕ) → 2 ≤ length numbers
+    → YesNoMeans (UpTo 11) 3 counts (acceptance table tree) (checking counts table tree numbers .code)
+check-means counts table tree numbers h =
+    rw (check-roomy counts table tree numbers h) (yes-no-means (λ cause p. omega arith) _ _ _ _ _ _ (acceptance-causes table tree))
+
+pub check-short : (counts table tree numbers : List ℕ)
+    → (checking counts table tree numbers .code ≡ 100) ↔ ((length counts < 3) ⊎ (length numbers < 2))
+check-short counts table tree numbers = (
+  λ h. elim (decLe 2 (length numbers)) [
+    | yes l ↦ inl (check-means counts table tree numbers l .short .0 h)
+    | no g ↦ inr (omega arith)
+  ],
+  λ h. sym (check-few counts table tree numbers h .0),
+)
 
 -- A relation query refuses by 1 to 7, or 13.
 pub relate-means : (table out numbers : List ℕ) → WorkMeans (UpToOr 7 13) 2 numbers (relationQuery table out) (relating table out numbers .code)
@@ -73,10 +89,41 @@ pub judge-leaves : (table numbers : List ℕ) → (judging table numbers .code �
 unfolding judging
 judge-leaves table numbers h = leaves _ _ _ _ [] [] (λ cause e. refl) h .0
 
--- A check adds its refusals to the counts: these are what they were where it returns 100.
-pub check-leaves : (counts table tree : List ℕ) → checking counts table tree .code ≡ 100 → checking counts table tree .numbers ≡ counts
-unfolding checking
-check-leaves counts table tree h = sym (too-few _ _ _ _ [] _ (check-means counts table tree .short .0 h) .1 .0)
+-- A check adds its refusals to the counts: where it returns 100 these are what they were, and the array for the subtree too. That array is what it
+-- was wherever the check does not return 101; then it begins with the subtree's numbers.
+module _ (counts table tree numbers : List ℕ) where
+  pub check-leaves : checking counts table tree numbers .code ≡ 100
+      → (checking counts table tree numbers .numbers ≡ counts) × (checking counts table tree numbers .out ≡ numbers)
+  check-leaves h =
+      let e = check-few counts table tree numbers (check-short counts table tree numbers .0 h) in (sym (e .1 .0), sym (e .1 .1))
+
+  room : (checking counts table tree numbers .code ≡ 100 → ⊥) → (3 ≤ length counts) × (2 ≤ length numbers)
+  room other = (
+    elim (decLe 3 (length counts)) [ yes l ↦ l | no g ↦ absurd (other (check-short counts table tree numbers .1 (inl (omega arith)))) ],
+    elim (decLe 2 (length numbers)) [ yes l ↦ l | no g ↦ absurd (other (check-short counts table tree numbers .1 (inr (omega arith)))) ],
+  )
+
+  pub check-names : checking counts table tree numbers .code ≡ 101
+      → (r : NamesSubtree table tree) × (checking counts table tree numbers .out ≡ r .node ∷ r .size ∷ drop 2 numbers)
+  unfolding subtreeAfter
+  check-names h =
+      let (l, m) = room (λ e. omega arith) in
+      let r = rejected-found table tree (check-means counts table tree numbers m .no .0 h .1) in
+      (r, check-subtree counts table tree numbers l m ∙ rw (r .is-found))
+
+  pub check-keeps : (checking counts table tree numbers .code ≡ 101 → ⊥) → checking counts table tree numbers .out ≡ numbers
+  unfolding subtreeAfter mapRead isAccepted
+  check-keeps other = elim (ℕ-discrete (checking counts table tree numbers .code) 100) [
+    | yes e ↦ check-leaves e .1
+    | no short ↦
+        let (l, m) = room short in
+        check-subtree counts table tree numbers l m ∙ go (finding table tree) refl (λ rejects. other (check-means counts table tree numbers m .no .1 (l, rejects)))
+  ]
+    where
+      go : (x : Read Finding) → finding table tree ≡ x → (acceptance table tree ≡ found false → ⊥) → subtreeAfter x numbers ≡ numbers
+      go (found accepted) e other = refl
+      go (found (rejected i size)) e other = absurd (other (sym (finding-acceptance table tree) ∙ rw e))
+      go (refused cause) e other = refl
 
 -- A pair query that does not return 101 leaves the numbers: `ComparesInto` is its promise.
 pub compare-leaves : (table : List ℕ) (q r : ℕ) (numbers : List ℕ) (code : ℕ) (numbers′ : List ℕ)
@@ -114,9 +161,16 @@ reduced-demand-3 table out numbers out′ numbers′ bytes code after over =
     let is = found-with done reductionNumbers _ numbers out _ enough (sym e) refl refl in
     (r, after ∙ sym (is .1 .0), rw (over ∙ sym (is .1 .1)) (demand-3 table out r bytes e))
 
--- Under demand 3 a check against either table returns the same number and leaves the same counts.
-pub same-check-code : (table out : List ℕ) (r : Reduction) (bytes : List ℕ) → Demand3 table out r bytes → (counts tree : List ℕ)
-    → (checking counts table tree .code ≡ checking counts bytes tree .code)
-    × (checking counts table tree .numbers ≡ checking counts bytes tree .numbers)
-unfolding checking
-same-check-code table out r bytes d counts tree = rw (d .same-answer tree) (refl, refl)
+-- Under demand 3 a check against either table returns the same number and leaves the same counts. The subtrees may differ.
+pub same-check-code : (table out : List ℕ) (r : Reduction) (bytes : List ℕ) → Demand3 table out r bytes → (counts tree numbers : List ℕ)
+    → (checking counts table tree numbers .code ≡ checking counts bytes tree numbers .code)
+    × (checking counts table tree numbers .numbers ≡ checking counts bytes tree numbers .numbers)
+same-check-code table out r bytes d counts tree numbers = elim (decLe 2 (length numbers)) [
+  | yes l ↦ rw (check-roomy counts table tree numbers l, check-roomy counts bytes tree numbers l, d .same-answer tree)
+      (output-aside 3 _ _ _ counts _ _ _ _)
+  | no g ↦
+      let short : (length counts < 3) ⊎ (length numbers < 2) = inr (omega arith) in
+      let a = check-few counts table tree numbers short in
+      let b = check-few counts bytes tree numbers short in
+      (sym (a .0) ∙ b .0, sym (a .1 .0) ∙ b .1 .0)
+]

@@ -11,14 +11,16 @@ use Rattle.automaton.specs.Automaton.{Automaton}
 use Rattle.automaton.specs.Table.{judge}
 use Rattle.automaton.specs.Decoded.{sized}
 use Rattle.automaton.specs.declared.table.Size.{Size}
-use Rattle.simulation.specs.Check.{acceptance, counted}
+use Rattle.trees.specs.Subtree.{Finding, accepted, rejected}
+use Rattle.simulation.specs.Check.{acceptance, finding, counted}
 use Rattle.simulation.specs.Query.{RoundsAndPairs, relationQuery, relationAfter, pairQuery, Unmatched}
 use Rattle.simulation.specs.declared.checking.Counts.{Counts}
 use Rattle.reduction.specs.Reduce.{reduction, reductionAfter}
 use Rattle.reduction.specs.declared.reducing.Reduction.{Reduction}
 use Rattle.reporting.specs.Report.{report}
 
--- The number that a call returns; the array for numbers and the output afterwards, which is empty for a call that has none.
+-- The number that a call returns; the array for numbers and the output afterwards, which is empty for a call that has none. Of a check they are the
+-- counts and the array for the subtree.
 pub record Exported : Type 0 where
   pub code : ℕ
   pub numbers : List ℕ
@@ -59,9 +61,19 @@ countsIn counts = record { accepted = getD counts 0 0; rejected = getD counts 1 
 unfoldable pub countsNumbers : Counts → List ℕ
 countsNumbers c = c .accepted ∷ c .rejected ∷ c .refused ∷ []
 
-unfoldable pub checking : List ℕ → List ℕ → List ℕ → Exported
-checking counts table tree =
-    exported 3 yesNo (λ (answer : Read Bool). countsNumbers (counted (countsIn counts) answer)) (found (acceptance table tree)) counts [] []
+-- The array for the subtree that is named, afterwards: of a tree that is not accepted its top node and how many nodes it has.
+unfoldable pub subtreeAfter : Read Finding → List ℕ → List ℕ
+subtreeAfter (found accepted) numbers = numbers
+subtreeAfter (found (rejected i size)) numbers = i ∷ size ∷ drop 2 numbers
+subtreeAfter (refused cause) numbers = numbers
+
+-- Both arrays have to be long enough before anything is counted.
+unfoldable pub checking : List ℕ → List ℕ → List ℕ → List ℕ → Exported
+checking counts table tree numbers =
+    cond (leb 2 (length numbers))
+    (exported 3 yesNo (λ (answer : Read Bool). countsNumbers (counted (countsIn counts) answer)) (found (acceptance table tree)) counts numbers
+    (subtreeAfter (finding table tree) numbers))
+    (record { code = 100; numbers = counts; out = numbers })
 
 -- The relation query: rounds, pairs; and the rows in `out`.
 unfoldable pub relating : List ℕ → List ℕ → List ℕ → Exported

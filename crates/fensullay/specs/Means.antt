@@ -6,6 +6,12 @@ use mathlib.Core.Bool.{Bool, true, false}
 use mathlib.Core.List.{List}
 use lib.ListN.{length}
 use Rattle.records.specs.Read.{Read, found, refused}
+use Rattle.automaton.specs.Automaton.{Automaton}
+use Rattle.automaton.specs.Table.{judge}
+use Rattle.trees.specs.Tree.{Tree}
+use Rattle.trees.specs.Postfix.{judgeTree}
+use Rattle.trees.specs.Subtree.{rejected, Named}
+use Rattle.simulation.specs.Check.{finding}
 
 -- The causes from 1 to a number; these or one more.
 abbrev pub UpTo : ℕ → ℕ → Type 0
@@ -31,3 +37,14 @@ WorkMeans {A} Cause need array x = Means Cause need array x ((a : A) × (x ≡ f
 -- Of a question 0 means yes and 101 no.
 abbrev pub YesNoMeans : (ℕ → Type 0) → ℕ → List ℕ → Read Bool → ℕ → Type 0
 YesNoMeans Cause need array x = Means Cause need array x (x ≡ found true) (x ≡ found false)
+
+-- What the two numbers mean that a check writes where it returns 101: they name a subtree of the tree that was read with the table's automaton.
+pub record NamesSubtree (table tree : List ℕ) : Type 0 where
+  pub automaton : Automaton
+  pub read : Tree
+  pub is-automaton : judge table ≡ found automaton
+  pub is-read : judgeTree (automaton .ranks) tree ≡ found read
+  pub node : ℕ
+  pub size : ℕ
+  pub is-found : finding table tree ≡ found (rejected node size)
+  pub named : Named automaton read node size

@@ -159,8 +159,8 @@ pub demand-3 : (table out : List ℕ) (r : Reduction) → ((i : ℕ) → getD ta
     → Demand3 table out r (take (r .length) (reductionAfter (judge table) out))
 demand-3 = delivered.demand-3
 
--- Under demand 3 the counts are the same too, whatever was counted before; and two checks that meet the promise of the call `check` have the
--- same answer and the same counts.
+-- Under demand 3 the counts are the same too, whatever was counted before; and of two checks that meet the promise of the call `check` both accept, or
+-- neither, or both refuse by the same cause, and the counts are the same. The subtrees that they name may differ.
 module _ (table out : List ℕ) (r : Reduction) (bytes : List ℕ) (d : Demand3 table out r bytes) (counts : Counts) (tree : List ℕ) where
   pub same-counts : counted counts (acceptance table tree) ≡ counted counts (acceptance bytes tree)
   same-counts = ap (counted counts) (d .same-answer tree)

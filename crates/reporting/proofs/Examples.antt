@@ -1,5 +1,5 @@
--- Document 01's examples B1 to B12, from bytes and in the words of the contracts, as one joint statement. Judging, the relation and the
--- reduction of these tables are computed; what holds for every output and every answer follows by a law for each.
+-- Document 01's examples B1 to B12, from bytes and in the words of the contracts, as one joint statement; and examples of the subtree that a check
+-- names. Judging, the relation and the reduction of these tables are computed; what holds for every output and every answer follows by a law for each.
 use Prim.Native.Nat.{ℕ, _≤_, _<_}
 use mathlib.Core.Path.{_≡_, refl}
 use mathlib.Core.Logic.{_⊎_, _↔_}
@@ -10,6 +10,7 @@ use Rattle.lists.specs.Lists.{all, rising, from, keep, any, among}
 use Rattle.records.specs.Read.{found, refused, _>>=_, _>>_, check}
 use Rattle.records.specs.Bytes.{number2, number4, numbers, bytes2, bytes4, fields}
 use Rattle.records.specs.Record.{endOf, isWhole, opened, bodyOf, encodeRecord}
+use Rattle.records.specs.Output.{writtenOver}
 use Rattle.records.proofs.Buffers.{room-enough, room-short}
 use Rattle.automaton.specs.Automaton.{Automaton, renamed}
 use Rattle.automaton.specs.Table.{due, judgeRecord, sizeIn, judgeSize, judgeRanks, judgeFinals, ruleIn, judgeRule, judgeRules}
@@ -18,10 +19,11 @@ use Rattle.automaton.specs.Table.{encode}
 use Rattle.automaton.specs.Decoded.{sizeOf}
 use Rattle.automaton.proofs.Examples.{T}
 use Rattle.trees.specs.Tree.{belongs, accepts}
-use Rattle.trees.specs.Postfix.{treesIn, push, pushAll, single, isTreeRecord, judgeTree}
+use Rattle.trees.specs.Postfix.{treesIn, rankOn, push, pushAll, single, isTreeRecord, judgeTree, postfix}
 use Rattle.refinement.specs.Simulation.{related, paired, matchedBy, matched, survives, refine, allPairs, relationAt, settle, rounds}
 use Rattle.refinement.specs.Simulation.{relation}
-use Rattle.simulation.specs.Check.{acceptance}
+use Rattle.trees.specs.Subtree.{subtrees, hasState, firstBad, accepted, rejected, pointed, findingIn}
+use Rattle.simulation.specs.Check.{acceptance, finding}
 use Rattle.simulation.specs.Query.{simulationOf, roundsOf, bitsFrom, rowBytes, relationRows, relationBytes, relationQuery, pairQuery, yes}
 use Rattle.simulation.specs.Query.{rule, comparisonOf, Compares}
 use Rattle.simulation.specs.declared.query.Compared.{Compared}
@@ -153,7 +155,7 @@ unfolding reduce reductionRounds shortened numbered position restricted kept nee
     relation relationAt rounds settle allPairs refine keep survives matched matchedBy paired related any from
     encode encodeRules encodeRule encodeRecord bytes2 bytes4 fields
     simulationOf roundsOf relationBytes relationRows rowBytes bitsFrom unmatchedNumbers unmatchedFirst NamesOne
-    pairQuery acceptance accepts belongs judgeTree isTreeRecord pushAll push single treesIn
+    pairQuery acceptance accepts belongs judgeTree isTreeRecord pushAll push rankOn single treesIn
     judge judgeFromRanks judgeFromFinals judgeRules judgeRecord judgeSize judgeRanks judgeFinals sizeIn judgeRule ruleIn due opened isWhole endOf bodyOf number2 number4 numbers
     all rising _>>=_ _>>_ check
     reportOf report line numbersIn decimal decimalIn reducedWord statesWord rulesWord roundsWord
@@ -171,6 +173,84 @@ bench = record {
   B11 = reduces-to emptyTable _ refl;
   B12 = refl;
   report-on-T = refl;
+}
+
+-- No state, a symbol of rank 0 and no rule.
+abbrev pub tableN : List ℕ
+tableN =
+    8 ∷ 0 ∷ 0 ∷ 0 ∷ 1 ∷ 0 ∷ 0 ∷ 0 ∷ 1 ∷ 0 ∷ 0 ∷ 0
+    ∷ 3 ∷ 0 ∷ 0 ∷ 0 ∷ 2 ∷ 0 ∷ 0
+    ∷ 2 ∷ 0 ∷ 0 ∷ 0 ∷ 3 ∷ 0
+    ∷ []
+
+-- a, b and g of ranks 0, 0 and 1: a → 0, b → 1, g(1) → 1, final 0. No tree with b or g is accepted.
+abbrev pub tableG : List ℕ
+tableG =
+    8 ∷ 0 ∷ 0 ∷ 0 ∷ 1 ∷ 0 ∷ 2 ∷ 0 ∷ 3 ∷ 0 ∷ 3 ∷ 0
+    ∷ 5 ∷ 0 ∷ 0 ∷ 0 ∷ 2 ∷ 0 ∷ 0 ∷ 0 ∷ 1
+    ∷ 4 ∷ 0 ∷ 0 ∷ 0 ∷ 3 ∷ 0 ∷ 0 ∷ 0
+    ∷ 6 ∷ 0 ∷ 0 ∷ 0 ∷ 4 ∷ 0 ∷ 0 ∷ 0 ∷ 0 ∷ 0
+    ∷ 6 ∷ 0 ∷ 0 ∷ 0 ∷ 4 ∷ 0 ∷ 1 ∷ 0 ∷ 1 ∷ 0
+    ∷ 8 ∷ 0 ∷ 0 ∷ 0 ∷ 4 ∷ 0 ∷ 2 ∷ 0 ∷ 1 ∷ 0 ∷ 1 ∷ 0
+    ∷ []
+
+-- The same reduced: a → 0, final 0.
+abbrev pub shortG : List ℕ
+shortG =
+    8 ∷ 0 ∷ 0 ∷ 0 ∷ 1 ∷ 0 ∷ 1 ∷ 0 ∷ 3 ∷ 0 ∷ 1 ∷ 0
+    ∷ 5 ∷ 0 ∷ 0 ∷ 0 ∷ 2 ∷ 0 ∷ 0 ∷ 0 ∷ 1
+    ∷ 4 ∷ 0 ∷ 0 ∷ 0 ∷ 3 ∷ 0 ∷ 0 ∷ 0
+    ∷ 6 ∷ 0 ∷ 0 ∷ 0 ∷ 4 ∷ 0 ∷ 0 ∷ 0 ∷ 0 ∷ 0
+    ∷ []
+
+-- The subtree that a check names, from bytes (document 02: the "piece"). Symbols in postfix order.
+pub record Pieces : Type 0 where
+  -- f(b,a) is accepted.
+  pub accepted-none : finding tableT (8 ∷ 0 ∷ 0 ∷ 0 ∷ 16 ∷ 0 ∷ 1 ∷ 0 ∷ 0 ∷ 0 ∷ 2 ∷ 0 ∷ []) ≡ found accepted
+  -- a: its node has states, and none is final. The whole tree.
+  pub leaf : finding tableT (4 ∷ 0 ∷ 0 ∷ 0 ∷ 16 ∷ 0 ∷ 0 ∷ 0 ∷ []) ≡ found (rejected 0 1)
+  -- f(f(a,a),a): the top is the first that belongs to no state.
+  pub top : finding tableT (12 ∷ 0 ∷ 0 ∷ 0 ∷ 16 ∷ 0 ∷ 0 ∷ 0 ∷ 0 ∷ 0 ∷ 2 ∷ 0 ∷ 0 ∷ 0 ∷ 2 ∷ 0 ∷ []) ≡ found (rejected 4 5)
+  -- f(f(f(a,a),a),b): the same subtree as the first child of another.
+  pub inner : finding tableT (16 ∷ 0 ∷ 0 ∷ 0 ∷ 16 ∷ 0 ∷ 0 ∷ 0 ∷ 0 ∷ 0 ∷ 2 ∷ 0 ∷ 0 ∷ 0 ∷ 2 ∷ 0 ∷ 1 ∷ 0 ∷ 2 ∷ 0 ∷ [])
+      ≡ found (rejected 4 5)
+  -- f(a,f(a,f(a,a))): the second child of the top, which belongs to no state either.
+  pub second-child : finding tableT (16 ∷ 0 ∷ 0 ∷ 0 ∷ 16 ∷ 0 ∷ 0 ∷ 0 ∷ 0 ∷ 0 ∷ 0 ∷ 0 ∷ 0 ∷ 0 ∷ 2 ∷ 0 ∷ 2 ∷ 0 ∷ 2 ∷ 0 ∷ [])
+      ≡ found (rejected 5 5)
+  -- f(f(a,a),f(a,a)): only the top belongs to no state.
+  pub two-children : finding tableT (16 ∷ 0 ∷ 0 ∷ 0 ∷ 16 ∷ 0 ∷ 0 ∷ 0 ∷ 0 ∷ 0 ∷ 2 ∷ 0 ∷ 0 ∷ 0 ∷ 0 ∷ 0 ∷ 2 ∷ 0 ∷ 2 ∷ 0 ∷ [])
+      ≡ found (rejected 6 7)
+  -- Symbol 2 alone, and a byte after the table: refused, and no subtree.
+  pub refused-none : finding tableT (4 ∷ 0 ∷ 0 ∷ 0 ∷ 16 ∷ 0 ∷ 2 ∷ 0 ∷ []) ≡ refused 10
+  pub table-refused-none : finding (tableT ++ (0 ∷ [])) (4 ∷ 0 ∷ 0 ∷ 0 ∷ 16 ∷ 0 ∷ 0 ∷ 0 ∷ []) ≡ refused 1
+  -- No states at all.
+  pub no-states : finding tableN (4 ∷ 0 ∷ 0 ∷ 0 ∷ 16 ∷ 0 ∷ 0 ∷ 0 ∷ []) ≡ found (rejected 0 1)
+  -- g(b): in the table each node has a state, so that the whole tree is named; the reduced table has no rule for b, so that b is.
+  pub reduces : reductionAfter (judge tableG) tableG ≡ shortG ++ drop 39 tableG
+  pub before : finding tableG (6 ∷ 0 ∷ 0 ∷ 0 ∷ 16 ∷ 0 ∷ 1 ∷ 0 ∷ 2 ∷ 0 ∷ []) ≡ found (rejected 1 2)
+  pub afterwards : finding shortG (6 ∷ 0 ∷ 0 ∷ 0 ∷ 16 ∷ 0 ∷ 1 ∷ 0 ∷ 2 ∷ 0 ∷ []) ≡ found (rejected 0 1)
+
+pub pieces : Pieces
+unfolding reduce reductionRounds shortened numbered position restricted kept needed pruned dominated dominatedBy quotient firsts sameRule
+    sameStates renamed representative firstOf equivalent roundsIn below trimmed namesOnly productive buildable closure foundIn among
+    relation relationAt rounds settle allPairs refine keep survives matched matchedBy paired related any from
+    encode encodeRules encodeRule encodeRecord bytes2 bytes4 fields reductionAfter writtenOver
+    finding findingIn pointed firstBad hasState subtrees postfix accepts belongs judgeTree isTreeRecord pushAll push rankOn single treesIn
+    judge judgeFromRanks judgeFromFinals judgeRules judgeRecord judgeSize judgeRanks judgeFinals sizeIn judgeRule ruleIn due opened isWhole endOf bodyOf number2 number4 numbers
+    all rising _>>=_ _>>_ check
+pieces = record {
+  accepted-none = refl;
+  leaf = refl;
+  top = refl;
+  inner = refl;
+  second-child = refl;
+  two-children = refl;
+  refused-none = refl;
+  table-refused-none = refl;
+  no-states = refl;
+  reduces = refl;
+  before = refl;
+  afterwards = refl;
 }
 
 -- Zero bytes: `refused 2`.

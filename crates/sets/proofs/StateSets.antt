@@ -20,7 +20,7 @@ use Rattle.lists.proofs.Elements.{all-member}
 use Rattle.lists.proofs.Keeping.{keep-in, keep-out, keep-agree, keep-none, keep-append}
 use Rattle.lists.proofs.Ranges.{from-append, from-rising, member-from, from-member, each-from}
 use Rattle.lists.proofs.Rising.{rising-keep, rising-same}
-use Rattle.lists.proofs.Search.{any-out, any-none-out, any-keep, among-in, among-out}
+use Rattle.lists.proofs.Search.{any-out, any-none-out, any-keep, any-same, among-in, among-out}
 use Rattle.sets.specs.Set as sets
 use Rattle.sets.specs.Set.{member, words, emptySet, replaced, withState, withoutState, unionOf, meetOf, sameSet}
 use Rattle.sets.specs.Inner.{withAll, setOf, statesIn, Has}
@@ -274,17 +274,18 @@ same-set-out ws vs lw lv e =
     same : ℕ → Bool
     same i = eqb (getD ws i 0) (getD vs i 0)
 
-pub states-below : (set low : List ℕ) (n : ℕ) → n ≤ 256 → Has low (λ (r : ℕ). ltb r n && member set r)
-    → statesIn 256 low ≡ statesIn n set
+-- The states of a set that has those below n that pass a test.
+pub states-below : (test : ℕ → Bool) (low : List ℕ) (n : ℕ) → n ≤ 256 → Has low (λ (r : ℕ). ltb r n && test r)
+    → statesIn 256 low ≡ keep test (from 0 n)
 unfolding statesIn
-states-below set low n h has =
+states-below test low n h has =
     let split : 256 ≡ n + (256 - n) = omega arith in
-    let front : keep (member low) (from 0 n) ≡ keep (member set) (from 0 n) =
+    let front : keep (member low) (from 0 n) ≡ keep test (from 0 n) =
     keep-agree _ _ (from 0 n) (each-from _ 0 n (λ r a b. has r (omega arith) ∙ rw (lt-ltb r n (omega arith)))) in
     let rest : keep (member low) (from (0 + n) (256 - n)) ≡ [] =
     keep-none _ (from (0 + n) (256 - n)) (each-from _ (0 + n) (256 - n) (λ r a b. has r (omega arith) ∙ rw (le-ltb r n (omega arith)))) in
     ap (λ (m : ℕ). keep (member low) (from 0 m)) split
-    ∙ rw (from-append, keep-append, front, rest) (append-nil (keep (member set) (from 0 n)))
+    ∙ rw (from-append, keep-append, front, rest) (append-nil (keep test (from 0 n)))
 
 -- Words below 2 ^ 64, as the code's are.
 
@@ -353,34 +354,32 @@ with-each P set q each p r h is = go (eqb r q) refl (sym (member-with set q r h)
     go true e is = rw (eqb-true r q e) p
     go false e is = each r h is
 
+-- A set that is not empty has a state.
+pub some-state : (set : List ℕ) → length set ≡ 4 → Bounded set → not (sameSet set emptySet) ≡ any (member set) (from 0 256)
+unfolding emptySet words setOf withAll
+some-state set four bounded = same-bool (has-one (any (member set) (from 0 256)) refl) not-empty
+  where
+    has-one : (t : Bool) → any (member set) (from 0 256) ≡ t → not (sameSet set emptySet) ≡ true → any (member set) (from 0 256) ≡ true
+    has-one true e h = e
+    has-one false e h =
+        absurd (sets-differ set emptySet four refl bounded (bounded-setOf []) (never-true (not-true-out h))
+        (λ q low. any-none-out (member set) e q (from-member 256 0 q (omega arith) (omega arith)) ∙ sym (member-empty q low)))
+
+    not-empty : any (member set) (from 0 256) ≡ true → not (sameSet set emptySet) ≡ true
+    not-empty e =
+        let f = any-out (member set) (from 0 256) e in
+        let low : f .element < 256 = omega (arith, member-from 256 0 (f .element) (f .member) .1) in
+        not-true-in (λ h. true≢false (sym (f .passes)
+        ∙ ap (λ (ws : List ℕ). member ws (f .element)) (same-set-out set emptySet four refl h) ∙ member-empty (f .element) low))
+
 -- Two sets have a common state exactly if their meet is not empty.
-module _ (set other : List ℕ) where
-  abbrev common : ℕ → Bool
-  common q = member other q && member set q
-
-  member-common : (q : ℕ) → q < 256 → member (meetOf set other) q ≡ common q
-  member-common q h = member-meet set other q h ∙ and-comm (member set q) (member other q)
-
-  pub common-state : Bounded (meetOf set other)
-      → not (sameSet (meetOf set other) emptySet) ≡ any (member set) (keep (member other) (from 0 256))
-  unfolding meetOf emptySet words setOf withAll
-  common-state bounded =
-      same-bool (in-both (any common (from 0 256)) refl) not-empty ∙ sym (any-keep (member set) (member other) (from 0 256))
-    where
-      in-both : (t : Bool) → any common (from 0 256) ≡ t → not (sameSet (meetOf set other) emptySet) ≡ true
-          → any common (from 0 256) ≡ true
-      in-both true e h = e
-      in-both false e h =
-          absurd (sets-differ (meetOf set other) emptySet refl refl bounded (bounded-setOf []) (never-true (not-true-out h))
-          (λ q low. member-common q low
-          ∙ any-none-out common e q (from-member 256 0 q (omega arith) (omega arith)) ∙ sym (member-empty q low)))
-
-      not-empty : any common (from 0 256) ≡ true → not (sameSet (meetOf set other) emptySet) ≡ true
-      not-empty e =
-          let f = any-out common (from 0 256) e in
-          let low : f .element < 256 = omega (arith, member-from 256 0 (f .element) (f .member) .1) in
-          not-true-in (λ h. true≢false (sym (f .passes) ∙ sym (member-common (f .element) low)
-          ∙ rw (same-set-out (meetOf set other) emptySet refl refl h) (member-empty (f .element) low)))
+pub common-state : (set other : List ℕ) → Bounded (meetOf set other)
+    → not (sameSet (meetOf set other) emptySet) ≡ any (member set) (keep (member other) (from 0 256))
+unfolding meetOf words
+common-state set other bounded =
+    some-state (meetOf set other) refl bounded
+    ∙ any-same _ _ 0 256 (λ q a b. member-meet set other q (omega arith) ∙ and-comm (member set q) (member other q))
+    ∙ sym (any-keep (member set) (member other) (from 0 256))
 
 -- The states below n.
 pub states-low : (n : ℕ) (set : List ℕ) (q : ℕ) → List·Memᴰ q (statesIn n set) → q < n

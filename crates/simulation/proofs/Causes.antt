@@ -13,7 +13,7 @@ use Rattle.automaton.specs.Automaton.{Automaton}
 use Rattle.automaton.specs.Table.{judge}
 use Rattle.automaton.proofs.TableCauses.{table-causes, TableCauseOr, table-causes-or}
 use Rattle.trees.specs.Tree.{Tree}
-use Rattle.trees.specs.Postfix.{push, pushAll, single, judgeTree}
+use Rattle.trees.specs.Postfix.{rankOn, push, pushAll, single, judgeTree}
 use Rattle.simulation.specs.Check.{acceptance}
 use Rattle.simulation.specs.Query.{relationQuery, relationAfter, pairQuery}
 
@@ -22,7 +22,7 @@ TreeCause cause = (8 ≤ cause) × (cause ≤ 11)
 
 module _ (ranks : List ℕ) where
   push-causes : (stack : List Tree) (f : ℕ) → Causes TreeCause (push ranks stack f)
-  unfolding push
+  unfolding push rankOn
   push-causes stack f = search causes depth 9
 
   push-all-causes : (stack : List Tree) (fs : List ℕ) → Causes TreeCause (pushAll ranks stack fs)

@@ -11,7 +11,7 @@ use Rattle.records.specs.Record.{endOf, isWhole, opened, bodyOf, encodeRecord}
 use Rattle.records.specs.Read.{found, refused, _>>=_, _>>_, check}
 use Rattle.automaton.specs.Table.{due, judgeRecord, sizeIn, judgeSize, judgeRanks, judgeFinals, ruleIn, judgeRule, judgeRules}
 use Rattle.automaton.specs.Table.{judgeFromFinals, judgeFromRanks, judge}
-use Rattle.trees.specs.Postfix.{treesIn, push, pushAll, single, isTreeRecord, judgeTree}
+use Rattle.trees.specs.Postfix.{treesIn, rankOn, push, pushAll, single, isTreeRecord, judgeTree}
 use Rattle.refinement.specs.Simulation.{related, paired, matchedBy, matched, survives, refine, allPairs, relationAt, settle, rounds}
 use Rattle.refinement.specs.Simulation.{relation}
 use Rattle.simulation.specs.Check.{acceptance}
@@ -59,7 +59,7 @@ pub record Order : Type 0 where
   pub table-before-output : relationQuery byteAfter [] ≡ refused 1
 
 pub order : Order
-unfolding judgeTree isTreeRecord pushAll push single treesIn acceptance pairQuery relationQuery
+unfolding judgeTree isTreeRecord pushAll push rankOn single treesIn acceptance pairQuery relationQuery
     judge judgeFromRanks judgeFromFinals judgeRules judgeRecord judgeSize judgeRanks judgeFinals sizeIn due opened isWhole endOf bodyOf number2 number4 numbers
     encodeRecord bytes2 bytes4 fields all rising check _>>=_ _>>_
 order = record {

@@ -2,12 +2,12 @@
 use Prim.Native.Nat.{ℕ, suc, _+_, _*_, _-_, _/_, _%_, _^_, _≤_, _<_}
 use mathlib.Core.Path.{_≡_, sym, ap, _∙_}
 use mathlib.Core.Logic.{_⊎_, _↔_}
-use mathlib.Core.List.{List, List·Memᴰ}
+use mathlib.Core.List.{List, _∷_, _++_, List·Memᴰ}
 use mathlib.Core.Bool.{true, true≢false}
-use lib.ListN.{length, getD}
+use lib.ListN.{length, take, drop, getD}
 use Rattle.lists.specs.Lists.{Distinct, from}
 use Rattle.lists.proofs.Ranges.{length-from}
-use Rattle.records.specs.Read.{found, refused}
+use Rattle.records.specs.Read.{found, refused, mapRead}
 use Rattle.records.proofs.Causes.{cause-of}
 use Rattle.automaton.specs.Automaton.{Automaton, WellFormed}
 use Rattle.automaton.specs.Table.{judge}
@@ -15,15 +15,17 @@ use Rattle.automaton.proofs.Theorems.{judged-well-formed}
 use Rattle.trees.specs.Tree.{Tree, Over, belongs, accepts}
 use Rattle.trees.specs.Run.{Reaches, Accepts}
 use Rattle.trees.specs.Postfix.{judgeTree, postfix, peak, encodeTree}
+use Rattle.trees.specs.Subtree.{subtrees, hasState, rejected, isAccepted, Named}
 use Rattle.trees.specs.declared.evaluation.Answer.the-variants.{Accepted, Rejected}
 use Rattle.trees.proofs.Runs as runs
 use Rattle.trees.proofs.Postfix as trees
+use Rattle.trees.proofs.Naming as naming
 use Rattle.simulation.proofs.Acceptance as accepting
 use Rattle.refinement.specs.Simulation.{Matched, Simulates, related, relationAt}
 use Rattle.simulation.proofs.Language as language
 use Rattle.refinement.proofs.Refinement as refinement
 use Rattle.refinement.proofs.Maximality as maximality
-use Rattle.simulation.specs.Check.{acceptance, Checks}
+use Rattle.simulation.specs.Check.{acceptance, finding, Checks}
 use Rattle.simulation.specs.declared.checking.Checked.{Checked}
 use Rattle.simulation.specs.declared.checking.Counts.{Counts}
 use Rattle.simulation.specs.Query.{simulationOf, roundsOf, relationBytes, relationQuery, relationAfter, pairQuery, Unmatched}
@@ -99,19 +101,40 @@ module _ (ranks : List ℕ) (t : Tree) (few : length ranks ≤ 256) (over : Over
       → judgeTree ranks (encodeTree t) ≡ refused 11
   written-tree-refused = trees.written-refused ranks t few over
 
--- So every tree over a table's symbols that keeps both limits gets an answer, and `check` accepts it exactly if some run accepts it.
+-- So every tree over a table's symbols that keeps both limits gets an answer: `check` accepts it exactly if some run accepts it, and otherwise it
+-- names a subtree.
 module _ (table : List ℕ) (A : Automaton) (t : Tree) (judged : judge table ≡ found A) (over : Over (A .ranks) t)
     (nodes : length (postfix t) ≤ 16384) (waiting : peak t ≤ 1024) where
+  read-back : judgeTree (A .ranks) (encodeTree t) ≡ found t
+  read-back = written-tree (A .ranks) t (judged-well-formed table A judged .symbols) over .1 (nodes, waiting)
+
   pub acceptance-answers : acceptance table (encodeTree t) ≡ found (accepts A t)
-  acceptance-answers =
-      let w : WellFormed A = judged-well-formed table A judged in
-      accepting.acceptance-found table (encodeTree t) A t judged (written-tree (A .ranks) t (w .symbols) over .1 (nodes, waiting))
+  acceptance-answers = accepting.acceptance-found table (encodeTree t) A t judged read-back
 
   pub check-answers : (counts : Counts) (r : Checked) → Checks counts table (encodeTree t) r
-      → ((r .answer ≡ Accepted) ⊎ (r .answer ≡ Rejected)) × ((r .answer ≡ Accepted) ↔ Accepts A t)
+      → ((r .answer ≡ Accepted) ⊎ ((i : ℕ) × (size : ℕ) × (r .answer ≡ Rejected i size) × Named A t i size))
+      × ((r .answer ≡ Accepted) ↔ Accepts A t)
   check-answers counts r c =
-      let s = accepting.answer-found (r .answer) (c .answer ∙ acceptance-answers) in
+      let s = accepting.answer-found table (encodeTree t) A t judged read-back (r .answer) (c .subtree) in
       (s .0, (λ h. runs.accepts-run A t (s .1 .0 h), λ h. s .1 .1 (runs.run-accepts A t h)))
+
+-- The subtree that is named where a tree is not accepted: what the record `Named` says holds of it.
+pub named-subtree : (table tree : List ℕ) (A : Automaton) (t : Tree) {i size : ℕ} → judge table ≡ found A → judgeTree (A .ranks) tree ≡ found t
+    → finding table tree ≡ found (rejected i size) → Named A t i size
+named-subtree table tree A t e f = accepting.rejected-named table tree A t e f
+
+-- A tree has a state exactly if some run over it ends in one of the automaton's states.
+pub has-state-reaches : (A : Automaton) (t : Tree) → (hasState A t ≡ true) ↔ ((q : ℕ) × (q < A .states) × Reaches (A .rules) t q)
+has-state-reaches = runs.has-state-reaches
+
+-- Each subtree stands where its top node does: its symbols, in postfix order, are the last ones up to that node.
+pub subtree-symbols : (t s : Tree) (before after : List Tree) → subtrees t ≡ before ++ (s ∷ after)
+    → take (length (postfix s)) (drop (suc (length before) - length (postfix s)) (postfix t)) ≡ postfix s
+subtree-symbols = naming.subtree-symbols
+
+-- Whether a tree is accepted, or the refusal, is read off what is found of it.
+pub finding-acceptance : (table tree : List ℕ) → mapRead isAccepted (finding table tree) ≡ acceptance table tree
+finding-acceptance = accepting.finding-acceptance
 
 -- A table that is not refused gets an answer to each query: the relation query where the output has room, the pair query for its states.
 module _ (table : List ℕ) (A : Automaton) (judged : judge table ≡ found A) where

@@ -7,7 +7,8 @@ use Rattle.records.specs.Read.{Read, found, refused, _>>=_}
 use Rattle.automaton.specs.Table.{judge}
 use Rattle.trees.specs.Tree.{accepts}
 use Rattle.trees.specs.Postfix.{judgeTree}
-use Rattle.trees.specs.Answers.{acceptanceOf}
+use Rattle.trees.specs.Subtree.{Finding, findingIn}
+use Rattle.trees.specs.Answers.{acceptanceOf, findingOf}
 use Rattle.simulation.specs.declared.checking.Checked.{Checked}
 use Rattle.simulation.specs.declared.checking.Counts.{Counts}
 
@@ -17,6 +18,13 @@ acceptance table tree = do
   A ← judge table
   t ← judgeTree (A .ranks) tree
   found (accepts A t)
+
+-- The same, and of a tree that is not accepted the subtree to look at.
+unfoldable pub finding : List ℕ → List ℕ → Read Finding
+finding table tree = do
+  A ← judge table
+  t ← judgeTree (A .ranks) tree
+  found (findingIn A t)
 
 -- The counts: zero when fresh; one more of its answer with each check, up to the 32-bit ceiling.
 abbrev pub fresh : Counts
@@ -34,3 +42,4 @@ counted c (refused cause) = record { accepted = c .accepted; rejected = c .rejec
 pub record Checks (counts : Counts) (table tree : List ℕ) (r : Checked) : Type 0 where
   pub answer : acceptanceOf (r .answer) ≡ acceptance table tree
   pub counts-after : r .counts ≡ counted counts (acceptance table tree)
+  pub subtree : findingOf (r .answer) ≡ finding table tree

@@ -4,7 +4,7 @@ ghost use Prim.Native.Nat.{_≤_};
 ghost use lib.ListN.{length};
 ghost use Rattle.automaton.specs.Inner.{RowsRoom};
 ghost use Rattle.indexing.specs.Inner.{IndexRoom};
-ghost use Rattle.trees.specs.Answers.{acceptanceOf};
+ghost use Rattle.trees.specs.Answers.{acceptanceOf, findingOf};
 ghost use Rattle.simulation.specs.Check as spec;
 use automaton::FEW_ROWS;
 use automaton::Judged;
@@ -49,7 +49,7 @@ impl Counts {
                 rejected: self.rejected,
                 refused: self.refused,
             },
-            Answer::Rejected => Counts {
+            Answer::Rejected { .. } => Counts {
                 accepted: self.accepted,
                 rejected: more(self.rejected),
                 refused: self.refused,
@@ -70,7 +70,8 @@ fn more(count: u32) -> u32
     if count < 4294967295 { count + 1 } else { count }
 }
 
-// Checks a tree against a table: the answer, and the counts with one more of it. The table is judged first.
+// Checks a tree against a table: the answer, which names a subtree to look at where the tree is not accepted, and the counts with one more of it.
+// The table is judged first.
 pub fn check(counts: Counts, table: &[u8], tree: &[u8]) -> Checked
     ensures { λ r. ⌜ spec.Checks counts (now (table .entry)) (now (tree .entry)) r ⌝ }
 {
@@ -81,10 +82,10 @@ pub fn check(counts: Counts, table: &[u8], tree: &[u8]) -> Checked
     }
 }
 
-// Whether a table accepts a tree, or the first cause of refusal. A rule takes ten bytes at least, so a short table gets short arrays, which
+// Whether a table accepts a tree, and if not, the subtree to look at; or the first cause of refusal. A rule takes ten bytes at least, so a short table gets short arrays, which
 // are cleared sooner.
 fn check_tree(table: &[u8], tree: &[u8]) -> Answer
-    ensures { λ r. ⌜ acceptanceOf r ≡ spec.acceptance (now (table .entry)) (now (tree .entry)) ⌝ }
+    ensures { λ r. ⌜ findingOf r ≡ spec.finding (now (table .entry)) (now (tree .entry)) ⌝ }
 {
     let mut ranks: [u8; 256] = [0; 256];
     if table.len() <= 1280 {
@@ -106,7 +107,7 @@ fn check_tree_in(
     index: &mut [u16],
 ) -> Answer
     requires { ⌜ (256 ≤ length (now ranks)) × (RowsRoom (now table) (now rows) × IndexRoom (now table) (now index)) ⌝ }
-    ensures { λ r. ⌜ acceptanceOf r ≡ spec.acceptance (now (table .entry)) (now (tree .entry)) ⌝ }
+    ensures { λ r. ⌜ findingOf r ≡ spec.finding (now (table .entry)) (now (tree .entry)) ⌝ }
 {
     let decoded = decode(table, ranks, rows);
     let finals = decoded.finals;

@@ -1,2 +1,5 @@
+pub mod Subtrees
 pub mod Postfix
+pub mod Naming
 pub mod Runs
+pub mod Walking

@@ -1,16 +1,15 @@
--- Trees in postfix order: what one node does, by the tests of `push`; that a tree over the symbols, written, is read back as that tree
+-- Trees in postfix order: what one node asks for, by the tests of `rankOn`; that a tree over the symbols, written, is read back as that tree
 -- exactly if it keeps both limits; and that a tree that is read is one over the symbols and is written as the bytes that it was read from.
--- From the laws of records and fields; for the theorems of `simulation`, and the part on `push` for evaluation.
+-- From the laws of records and fields; for the theorems of `simulation`, and the part on `rankOn` for the walk.
 use Prim.Native.Nat.{ℕ, suc, _+_, _-_, _*_, _%_, _≤_, _<_, max}
 use native.Mathlib.Nat.{zero-add}
 use native.Mathlib.Omega.{arith}
 use native.Mathlib.Decide.{decLe}
 use mathlib.Core.Path.{_≡_, refl, sym, ap, ap₂, _∙_}
 use mathlib.Core.Logic.{_↔_}
-use mathlib.Core.List.{List, [], _∷_, _++_, reverse, reverseAux, append-assoc, append-nil}
-use mathlib.Core.List.{reverseAux-eq, reverse-append, reverse-reverse, reverse-cons}
+use mathlib.Core.List.{List, [], _∷_, _++_, map-append, reverse, reverseAux, append-assoc, append-nil, reverseAux-eq, reverse-reverse}
 use mathlib.Core.Bool.{true, false≢true}
-use lib.ListN.{length, take, drop, getD, length-append, length-drop, length-reverse, take-append-drop}
+use lib.ListN.{length, take, drop, getD, length-append, length-reverse}
 use lib.Seq.{take-at, drop-at, drop-length, length-take-le}
 use lib.Dec.{leb, ltb, eqb}
 use borrow.Author.Tests.{lt-ltb, le-ltb, le-leb, lt-leb, ltb-true, leb-true, eqb-true, eq-eqb}
@@ -23,10 +22,11 @@ use Rattle.records.specs.Bytes.{numbers, fields}
 use Rattle.records.specs.Record.{Opening, whole, nothing, opened, bodyOf, encodeRecord}
 use Rattle.records.proofs.Fields.{Bytes, fields-numbers, numbers-fields, length-fields}
 use Rattle.records.proofs.Records.{record-opens, record-body, length-record, record-encoded, bytes-body}
-use Rattle.records.proofs.Reading.{refused≢found, checked, bind-found}
+use Rattle.records.proofs.Reading.{refused≢found, found-same, checked, bind-found}
 use Rattle.trees.specs.Tree.{Tree, Trees, node, nil, cons, arityOf, Over, AllOver}
-use Rattle.trees.specs.Postfix.{treesIn, push, pushAll, single, isTreeRecord, judgeTree, postfix, postfixes, peak, peakAbove}
+use Rattle.trees.specs.Postfix.{treesIn, rankOn, push, pushAll, single, isTreeRecord, judgeTree, postfix, postfixes, peak, peakAbove}
 use Rattle.trees.specs.Postfix.{encodeTree}
+use Rattle.trees.proofs.Subtrees.{top, postfixes-tops, readTrees, read-node}
 
 -- Trees as a list, and back.
 unfoldable treeList : Trees → List Tree
@@ -46,52 +46,53 @@ arity-treesIn (t ∷ ts) = ap suc (arity-treesIn ts)
 length-treeList : (ts : Trees) → length (treeList ts) ≡ arityOf ts
 length-treeList ts = sym (arity-treesIn (treeList ts)) ∙ ap arityOf (treesIn-treeList ts)
 
--- One node, by the tests of `push`.
-module _ (ranks : List ℕ) (stack : List Tree) (f : ℕ) where
-  pub push-unknown : length ranks ≤ f → push ranks stack f ≡ refused 9
-  unfolding push check _>>_
-  push-unknown h = rw (le-ltb f (length ranks) h)
+-- One node, by the tests of `rankOn`.
+module _ (ranks : List ℕ) (height f : ℕ) where
+  pub rank-unknown : length ranks ≤ f → rankOn ranks height f ≡ refused 9
+  unfolding rankOn check _>>_
+  rank-unknown h = rw (le-ltb f (length ranks) h)
 
   module _ (known : f < length ranks) where
-    pub push-unbalanced : length stack < getD ranks f 0 → push ranks stack f ≡ refused 10
-    unfolding push check _>>_
-    push-unbalanced h = rw (lt-ltb f (length ranks) known, lt-leb (getD ranks f 0) (length stack) h)
+    pub rank-unbalanced : height < getD ranks f 0 → rankOn ranks height f ≡ refused 10
+    unfolding rankOn check _>>_
+    rank-unbalanced h = rw (lt-ltb f (length ranks) known, lt-leb (getD ranks f 0) height h)
 
-    module _ (enough : getD ranks f 0 ≤ length stack) where
-      pub push-above-limit : 1024 ≤ length stack - getD ranks f 0 → push ranks stack f ≡ refused 11
-      unfolding push check _>>_
-      push-above-limit h =
+    module _ (enough : getD ranks f 0 ≤ height) where
+      pub rank-above-limit : 1024 ≤ height - getD ranks f 0 → rankOn ranks height f ≡ refused 11
+      unfolding rankOn check _>>_
+      rank-above-limit h =
           rw (
             lt-ltb f (length ranks) known,
-            le-leb (getD ranks f 0) (length stack) enough,
-            lt-leb (1 + length (drop (getD ranks f 0) stack)) 1024 (omega (arith, length-drop (getD ranks f 0) stack)),
+            le-leb (getD ranks f 0) height enough,
+            lt-leb (1 + (height - getD ranks f 0)) 1024 (omega arith),
           )
 
-      pub push-found : length stack - getD ranks f 0 < 1024 → push ranks stack f
-          ≡ found (node f (treesIn (reverse (take (getD ranks f 0) stack))) ∷ drop (getD ranks f 0) stack)
-      unfolding push check _>>_
-      push-found h =
+      pub rank-found : height - getD ranks f 0 < 1024 → rankOn ranks height f ≡ found (getD ranks f 0)
+      unfolding rankOn check _>>_
+      rank-found h =
           rw (
             lt-ltb f (length ranks) known,
-            le-leb (getD ranks f 0) (length stack) enough,
-            le-leb (1 + length (drop (getD ranks f 0) stack)) 1024 (omega (arith, length-drop (getD ranks f 0) stack)),
+            le-leb (getD ranks f 0) height enough,
+            le-leb (1 + (height - getD ranks f 0)) 1024 (omega arith),
           )
 
--- What a node that is read has passed.
-pub record Pushed (ranks : List ℕ) (stack : List Tree) (f : ℕ) (next : List Tree) : Type 0 where
+-- What a node that is not refused has passed.
+pub record Ranked (ranks : List ℕ) (height f r : ℕ) : Type 0 where
   pub symbol : f < length ranks
-  pub rank : getD ranks f 0 ≤ length stack
-  pub few : 1 + length (drop (getD ranks f 0) stack) ≤ 1024
-  pub stacked : node f (treesIn (reverse (take (getD ranks f 0) stack))) ∷ drop (getD ranks f 0) stack ≡ next
+  pub rank : r ≡ getD ranks f 0
+  pub enough : r ≤ height
+  pub few : height - r < 1024
 
-pub pushed : (ranks : List ℕ) (stack : List Tree) (f : ℕ) {next : List Tree} → push ranks stack f ≡ found next
-    → Pushed ranks stack f next
-unfolding push
-pushed ranks stack f h =
+pub ranked : (ranks : List ℕ) (height f : ℕ) {r : ℕ} → rankOn ranks height f ≡ found r → Ranked ranks height f r
+unfolding rankOn
+ranked ranks height f {r} h =
     let a = checked (ltb f (length ranks)) 9 _ h in
-    let b = checked (leb (getD ranks f 0) (length stack)) 10 _ (a .1) in
-    let c = checked (leb (1 + length (drop (getD ranks f 0) stack)) 1024) 11 _ (b .1) in
-    record { symbol = ltb-true _ _ (a .0); rank = leb-true _ _ (b .0); few = leb-true _ _ (c .0); stacked = cc (c .1) }
+    let b = checked (leb (getD ranks f 0) height) 10 _ (a .1) in
+    let c = checked (leb (1 + (height - getD ranks f 0)) 1024) 11 _ (b .1) in
+    let rank : getD ranks f 0 ≡ r = found-same (c .1) in
+    let enough = leb-true (getD ranks f 0) height (b .0) in
+    let few = leb-true (1 + (height - getD ranks f 0)) 1024 (c .0) in
+    record { symbol = ltb-true f (length ranks) (a .0); rank = sym rank; enough = omega arith; few = omega arith }
 
 -- Reading back. x reads trees of which n wait at most: within the limit it comes to y, above the limit it is refused.
 record Limited {A : Type 0} (n : ℕ) (x y : Read A) : Type 0 where
@@ -133,17 +134,18 @@ module _ (ranks : List ℕ) where
     long = rw (splits, length-append, as-many)
 
     push-node : f < length ranks → Limited (length stack + 1) (push ranks on-stack f) (found (node f ts ∷ stack))
+    unfolding push _>>=_
     push-node h = record {
       fits = λ l.
-          push-found ranks on-stack f h (omega (arith, long)) (omega (arith, long))
-          ∙ rw (
+          rw (
+            rank-found ranks (length on-stack) f h (omega (arith, long)) (omega (arith, long)),
             splits,
             take-at (reverse (treeList ts)) stack (getD ranks f 0) as-many,
             drop-at (reverse (treeList ts)) stack (getD ranks f 0) as-many,
             reverse-reverse,
             treesIn-treeList,
           );
-      breaks = λ g. push-above-limit ranks on-stack f h (omega (arith, long)) (omega (arith, long));
+      breaks = λ g. rw (rank-above-limit ranks (length on-stack) f h (omega (arith, long)) (omega (arith, long)));
     }
 
   mutual
@@ -175,11 +177,6 @@ module _ (ranks : List ℕ) where
 abbrev spelled : List Tree → List ℕ
 spelled stack = postfixes (treesIn (reverse stack))
 
-postfixes-append : (ss ts : List Tree) → postfixes (treesIn (ss ++ ts)) ≡ postfixes (treesIn ss) ++ postfixes (treesIn ts)
-unfolding treesIn postfix
-postfixes-append [] ts = refl
-postfixes-append (s ∷ ss) ts = rw (postfixes-append ss ts, append-assoc)
-
 over-trees : (ranks : List ℕ) (ts : List Tree) → All (Over ranks) ts → AllOver ranks (treesIn ts)
 unfolding treesIn Over
 over-trees ranks [] none = tt
@@ -190,18 +187,19 @@ record Spelling (ranks symbols : List ℕ) (stack : List Tree) (left : List ℕ)
   spells : spelled stack ++ left ≡ symbols
   over : All (Over ranks) stack
 
-push-spelling : {ranks symbols : List ℕ} {stack next : List Tree} {f : ℕ} {fs : List ℕ} → Pushed ranks stack f next
-    → Spelling ranks symbols stack (f ∷ fs) → Spelling ranks symbols next fs
-unfolding treesIn postfix Over
-push-spelling {ranks} {stack = stack} {f = f} {fs = fs} p s =
-    let r = getD ranks f 0 in
+push-spelling : {ranks symbols : List ℕ} {stack : List Tree} {f r : ℕ} {fs : List ℕ} → Ranked ranks (length stack) f r
+    → Spelling ranks symbols stack (f ∷ fs)
+    → Spelling ranks symbols (node f (treesIn (reverse (take r stack))) ∷ drop r stack) fs
+unfolding top Over readTrees
+push-spelling {ranks} {symbols} {stack} {f} {r} {fs} p s =
     let ts = take r stack in
     let children = treesIn (reverse ts) in
-    let arity : arityOf children ≡ r = arity-treesIn (reverse ts) ∙ length-reverse ts ∙ length-take-le r stack (p .rank) in
-    let all : spelled stack ≡ spelled (drop r stack) ++ postfixes children =
-    ap spelled (sym (take-append-drop r stack)) ∙ rw (reverse-append ts (drop r stack), postfixes-append) in
-    rw (← (p .stacked)) record {
-      spells = rw (reverse-cons, postfixes-append) (simp (append-assoc, append-nil) (rw (all, append-assoc) at (s .spells)));
+    let arity : arityOf children ≡ getD ranks f 0 =
+    arity-treesIn (reverse ts) ∙ length-reverse ts ∙ length-take-le r stack (p .enough) ∙ p .rank in
+    let one-more : spelled (node f children ∷ drop r stack) ≡ spelled stack ++ (f ∷ []) =
+    rw (postfixes-tops, postfixes-tops, read-node f r stack, map-append) in
+    record {
+      spells = rw (one-more, append-assoc) (s .spells);
       over = also {x = node f children}
           (p .symbol, arity, over-trees ranks (reverse ts) (all-reverse ts [] (all-take r stack (s .over)) none))
           (all-drop r stack (s .over));
@@ -209,11 +207,13 @@ push-spelling {ranks} {stack = stack} {f = f} {fs = fs} p s =
 
 pushAll-spelling : (ranks symbols : List ℕ) (stack : List Tree) (fs : List ℕ) (last : List Tree) → pushAll ranks stack fs ≡ found last
     → Spelling ranks symbols stack fs → Spelling ranks symbols last []
-unfolding pushAll
+unfolding pushAll push
 pushAll-spelling ranks symbols stack [] last h s = let e : stack ≡ last = cc in rw (← e) s
 pushAll-spelling ranks symbols stack (f ∷ fs) last h s =
     let n = bind-found (push ranks stack f) (λ (next : List Tree). pushAll ranks next fs) h in
-    pushAll-spelling ranks symbols (n .0) fs last (n .2) (push-spelling (pushed ranks stack f (n .1)) s)
+    let (r, passed, pushed) = bind-found (rankOn ranks (length stack) f) _ (n .1) in
+    pushAll-spelling ranks symbols (n .0) fs last (n .2)
+    (rw (found-same pushed) at (push-spelling (ranked ranks (length stack) f passed) s))
 
 -- One tree is left.
 single-found : (stack : List Tree) (t : Tree) → single stack ≡ found t → stack ≡ t ∷ []

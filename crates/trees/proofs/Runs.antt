@@ -1,15 +1,20 @@
 -- A tree belongs to the states that its runs reach: a run of a node is a rule and runs of its children, and no more. From the definitions
 -- alone; for the theorems of `simulation`, and for the languages that the preorder compares and the steps of reduction keep.
-use Prim.Native.Nat.{ℕ}
+use Prim.Native.Nat.{ℕ, _<_}
+use native.Mathlib.Omega.{arith}
 use mathlib.Core.Path.{_≡_, refl, ap, ap₂}
+use mathlib.Core.Logic.{_↔_}
 use mathlib.Core.List.{List, [], _∷_}
 use mathlib.Core.Bool.{true, false≢true}
 use lib.Dec.{eqb}
 use borrow.Author.Tests.{eqb-true, eq-eqb}
+use Rattle.lists.specs.Lists.{from}
+use Rattle.lists.proofs.Ranges.{from-member, member-from}
 use Rattle.lists.proofs.Search.{any-in, any-out}
 use Rattle.lists.proofs.Booleans.{and-true-in, and-true-out}
 use Rattle.automaton.specs.Automaton.{Rule, Automaton}
 use Rattle.trees.specs.Tree.{Tree, Trees, node, nil, cons, belongs, belongInOrder, accepts}
+use Rattle.trees.specs.Subtree.{hasState}
 use Rattle.trees.specs.Run.{Run, Runs, at, none, also, root, roots, treeOf, treesOf, RuleAt, IsRun, AreRuns, Reaches, Accepts}
 
 -- Trees and states, position by position.
@@ -115,3 +120,13 @@ module _ (A : Automaton) (t : Tree) where
   pub run-accepts : Accepts A t → accepts A t ≡ true
   unfolding accepts
   run-accepts r = any-in _ (r .final) (reaches-belongs (A .rules) t (r .state) (r .reaches))
+
+-- A tree has a state exactly if it reaches one of the automaton's states.
+pub has-state-reaches : (A : Automaton) (t : Tree) → (hasState A t ≡ true) ↔ ((q : ℕ) × (q < A .states) × Reaches (A .rules) t q)
+unfolding hasState
+has-state-reaches A t = (
+  λ h.
+      let f = any-out _ (from 0 (A .states)) h in
+      (f .element, omega (arith, member-from (A .states) 0 (f .element) (f .member)), belongs-reaches (A .rules) t (f .element) (f .passes)),
+  λ (q, low, r). any-in _ (from-member (A .states) 0 q (omega arith) (omega arith)) (reaches-belongs (A .rules) t q r),
+)

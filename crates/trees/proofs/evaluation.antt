@@ -1,4 +1,4 @@
-pub mod Acceptance
+pub mod Answering
 pub mod NodeStates
 pub mod Nodes
 pub mod Stacks

@@ -1,36 +1,41 @@
 -- What the contracts of evaluation cite; no call for everybody cites any of it. Places that an array does not have, where `getD` would give
 -- its default, are ruled out by the bounds in the contracts that cite these.
-use Prim.Native.Nat.{ℕ, _*_, _≤_, _<_}
+use Prim.Native.Nat.{ℕ, zero, suc, _+_, _*_, _≤_, _<_}
 use mathlib.Core.Path.{_≡_}
-use mathlib.Core.List.{List, [], _∷_, reverse}
-use mathlib.Core.Bool.{Bool, true, _&&_}
+use mathlib.Core.List.{List, [], _∷_}
+use mathlib.Core.Bool.{Bool, true, false, _&&_}
 use lib.ListN.{length, drop, getD}
 use lib.Dec.{eqb}
-use Rattle.lists.specs.Lists.{any}
+use Rattle.lists.specs.Lists.{All}
 use Rattle.sets.specs.Set.{member, words}
 use Rattle.sets.specs.Entries.{entryAt}
-use Rattle.sets.specs.Inner.{Has}
+use Rattle.sets.specs.Inner.{statesIn}
 use Rattle.records.specs.Refusal.{numberOf}
+use Rattle.records.specs.Bytes.{numbers}
 use Rattle.records.specs.Read.{Read, found, refused, _>>=_}
-use Rattle.automaton.specs.Automaton.{Rule, Automaton}
-use Rattle.automaton.specs.Row.{ruleAt, Rows}
+use Rattle.automaton.specs.Automaton.{Rule, Automaton, WellFormed}
+use Rattle.automaton.specs.Row.{ruleAt, rulesIn, Rows}
 use Rattle.indexing.specs.Index.{Indexes}
-use Rattle.trees.specs.declared.evaluation.Height.the-variants as height
-use Rattle.trees.specs.Tree.{Tree, belongs, accepts}
-use Rattle.trees.specs.Postfix.{pushAll, single, judgeTree}
-use Rattle.trees.specs.declared.evaluation.Height.{Height}
+use Rattle.trees.specs.Postfix.{judgeTree}
+use Rattle.trees.specs.Subtree.{Finding, findingIn}
+use Rattle.trees.specs.Walk.{Waiting, Walk, start, sizesOf, advanceAll, closing}
+use Rattle.trees.specs.declared.evaluation.First.{First}
+use Rattle.trees.specs.declared.evaluation.First.the-variants.{Nowhere, At}
+use Rattle.trees.specs.declared.evaluation.Held.{Held}
+use Rattle.trees.specs.declared.evaluation.Stepped.{Stepped}
+use Rattle.trees.specs.declared.evaluation.Stepped.the-variants.{On, Refused}
 
--- What evaluation works on: the ranks of the symbols, k rules in rows, each with as many children as its symbol's rank, and their index by
--- symbol.
-pub record Evaluable (k : ℕ) (ranks rows index : List ℕ) : Type 0 where
-  pub symbols : length ranks ≤ 256
-  pub rules : Rows rows k
-  pub arity : (i : ℕ) → i < k → length (ruleAt rows i .children) ≡ getD ranks (ruleAt rows i .symbol) 0
-  pub index-is : Indexes (λ (u : Rule). u .symbol) rows k (length ranks) index
+-- What evaluation works on: arrays that hold the ranks and the rules of a well-formed automaton, and the index of its rules by symbol.
+pub record Evaluable (A : Automaton) (ranks rows index : List ℕ) : Type 0 where
+  pub well-formed : WellFormed A
+  pub ranks-are : ranks ≡ A .ranks
+  pub rules-are : A .rules ≡ rulesIn rows (length (A .rules))
+  pub rows-hold : Rows rows (length (A .rules))
+  pub index-is : Indexes (λ (u : Rule). u .symbol) rows (length (A .rules)) (length ranks) index
 
--- Room in a stack of state sets for n entries, or for 1,024 where n is greater.
-abbrev pub StackRoom : ℕ → List ℕ → Type 0
-StackRoom n words = (h : ℕ) → h ≤ n → h ≤ 1024 → 4 * h ≤ length words
+-- Room on the stack for n trees, or for 1,024 where n is greater: four words and a size to a tree.
+abbrev pub StackRoom : ℕ → List ℕ → List ℕ → Type 0
+StackRoom n words sizes = (h : ℕ) → h ≤ n → h ≤ 1024 → (4 * h ≤ length words) × (h ≤ length sizes)
 
 -- States that are members, one each and in order, of the sets in some words.
 unfoldable pub inOrder : List ℕ → List ℕ → Bool
@@ -45,32 +50,61 @@ ruleGives rows sets q i = eqb (ruleAt rows i .target) q && inOrder sets (ruleAt 
 unfoldable pub gathered : List ℕ → List ℕ
 gathered spread = words (λ (i : ℕ). getD spread (2 * i) 0)
 
--- The entries of some words are, one each and in order, the sets of the states that trees belong to.
-unfoldable pub Entries : List Rule → List ℕ → List Tree → Type 0
-Entries rules words [] = Unit {0}
-Entries rules words (t ∷ ts) = Has (entryAt words 0) (belongs rules t) × Entries rules (drop 4 words) ts
+-- The sum of some numbers.
+unfoldable pub sum : List ℕ → ℕ
+sum [] = 0
+sum (x ∷ xs) = x + sum xs
 
--- Words represent a stack of trees, whose top stands first and has the last entry.
-unfoldable pub Represents : List Rule → List ℕ → List Tree → Type 0
-Represents rules words stack = Entries rules words (reverse stack)
+-- What the walk holds, in arrays: tree e of the stack has set e of the words and size e; the stack's top is the last of them. What stands in the
+-- arrays from the stack's height on is not held.
+unfoldable pub waitingAt : List ℕ → List ℕ → ℕ → Waiting
+waitingAt words sizes e = record { states = statesIn 256 (entryAt words e); size = getD sizes e 0 }
 
--- What reading nodes leaves: the height of the stack, which the words represent, or the refusal.
-unfoldable pub Stacked : List Rule → Read (List Tree) → List ℕ → Height → Type 0
-Stacked rules stack words (height.At n) = (trees : List Tree) × (stack ≡ found trees) × (length trees ≡ n) × Represents rules words trees
-Stacked rules stack words (height.Refused cause) = stack ≡ refused (numberOf cause)
+unfoldable pub stackIn : List ℕ → List ℕ → ℕ → List Waiting
+stackIn words sizes zero = []
+stackIn words sizes (suc e) = waitingAt words sizes e ∷ stackIn words sizes e
 
--- The acceptance by final states and rules of the one tree on a stack and of a tree in postfix order; by an automaton, of a tree in bytes.
-unfoldable pub stackAcceptance : List Rule → List ℕ → List Tree → Read Bool
-stackAcceptance rules finals stack = do
-  t ← single stack
-  found (any (λ (q : ℕ). belongs rules t q) finals)
+unfoldable pub walkIn : List ℕ → List ℕ → Held → Walk
+walkIn words sizes held = record { stack = stackIn words sizes (held .height); nodes = held .nodes; first = held .first }
 
-unfoldable pub nodesAcceptance : List ℕ → List ℕ → List Rule → List ℕ → Read Bool
-nodesAcceptance ranks finals rules symbols = do
-  stack ← pushAll ranks [] symbols
-  stackAcceptance rules finals stack
+unfoldable pub steppedOf : List ℕ → List ℕ → Stepped → Read Walk
+steppedOf words sizes (On held) = found (walkIn words sizes held)
+steppedOf words sizes (Refused cause) = refused (numberOf cause)
 
-unfoldable pub treeAcceptance : Automaton → List ℕ → Read Bool
-treeAcceptance A b = do
+-- What a walk with an automaton can hold: states of the automaton, trees whose sizes add up to the number of nodes, no more trees than nodes, and at
+-- most 1,024.
+pub record Holdable (A : Automaton) (w : Walk) : Type 0 where
+  pub states : All (λ (t : Waiting). All (λ (q : ℕ). q < A .states) (t .states)) (w .stack)
+  pub sizes : sizesOf (w .stack) ≡ w .nodes
+  pub few : length (w .stack) ≤ w .nodes
+  pub waiting : length (w .stack) ≤ 1024
+
+-- The nodes of a body from the next one on are still to be walked.
+pub record Walked (A : Automaton) (b words sizes : List ℕ) (held : Held) : Type 0 where
+  pub holdable : Holdable A (walkIn words sizes held)
+  pub most : 2 * held .nodes ≤ length b
+  pub left : advanceAll A start (numbers b) ≡ advanceAll A (walkIn words sizes held) (numbers (drop (2 * held .nodes) b))
+
+-- At least one node more than some was walked; or the body is refused.
+unfoldable pub WalkedFrom : Automaton → List ℕ → List ℕ → List ℕ → ℕ → Stepped → Type 0
+WalkedFrom A b words sizes nodes (On held) = Walked A b words sizes held × (nodes < held .nodes)
+WalkedFrom A b words sizes nodes (Refused cause) = refused (numberOf cause) ≡ advanceAll A start (numbers b)
+
+unfoldable pub isSomewhere : First → Bool
+isSomewhere (At i size) = true
+isSomewhere Nowhere = false
+
+unfoldable pub isNew : First → First → Bool
+isNew (At i size) first = false
+isNew Nowhere first = isSomewhere first
+
+-- What the walk finds of some symbols; and what an automaton finds of a tree in bytes.
+unfoldable pub nodesFinding : Automaton → List ℕ → Read Finding
+nodesFinding A symbols = do
+  w ← advanceAll A start symbols
+  closing A w
+
+unfoldable pub treeFinding : Automaton → List ℕ → Read Finding
+treeFinding A b = do
   t ← judgeTree (A .ranks) b
-  found (accepts A t)
+  found (findingIn A t)

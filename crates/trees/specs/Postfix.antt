@@ -1,5 +1,5 @@
 -- A tree in bytes (document 01: "sheet"): one record of kind 16 and nothing after it; its body is the tree in postfix order.
-use Prim.Native.Nat.{ℕ, suc, _+_, _%_, max}
+use Prim.Native.Nat.{ℕ, suc, _+_, _-_, _%_, max}
 use mathlib.Core.List.{List, [], _∷_, _++_, reverse}
 use mathlib.Core.Bool.{Bool, false, _&&_}
 use lib.ListN.{length, take, drop, getD}
@@ -14,14 +14,20 @@ unfoldable pub treesIn : List Tree → Trees
 treesIn [] = nil
 treesIn (t ∷ ts) = cons t (treesIn ts)
 
--- One node: its symbol (9), its rank against the trees on the stack (10), and the trees that then stand there (11).
--- The stack's top is the last tree that was finished. The symbol is below the number of ranks where its rank is read.
+-- One node on a stack of so many trees: its symbol (9), its rank against the stack (10), and how many trees then stand there (11). It takes as many
+-- trees off the stack as its rank says. The symbol is below the number of ranks where its rank is read.
+unfoldable pub rankOn : List ℕ → ℕ → ℕ → Read ℕ
+rankOn ranks height f = do
+  check (ltb f (length ranks)) 9
+  check (leb (getD ranks f 0) height) 10
+  check (leb (1 + (height - getD ranks f 0)) 1024) 11
+  found (getD ranks f 0)
+
+-- The stack's top is the last tree that was finished.
 unfoldable pub push : List ℕ → List Tree → ℕ → Read (List Tree)
 push ranks stack f = do
-  check (ltb f (length ranks)) 9
-  check (leb (getD ranks f 0) (length stack)) 10
-  check (leb (1 + length (drop (getD ranks f 0) stack)) 1024) 11
-  found (node f (treesIn (reverse (take (getD ranks f 0) stack))) ∷ drop (getD ranks f 0) stack)
+  r ← rankOn ranks (length stack) f
+  found (node f (treesIn (reverse (take r stack))) ∷ drop r stack)
 
 unfoldable pub pushAll : List ℕ → List Tree → List ℕ → Read (List Tree)
 pushAll ranks stack [] = found stack
@@ -30,7 +36,7 @@ pushAll ranks stack (f ∷ fs) = do
   pushAll ranks next fs
 
 -- At the end one tree stands there (10).
-unfoldable pub single : List Tree → Read Tree
+unfoldable pub single : {A : Type 0} → List A → Read A
 single [] = refused 10
 single (t ∷ []) = found t
 single (t ∷ (s ∷ ts)) = refused 10

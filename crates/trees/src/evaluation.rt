@@ -1,11 +1,11 @@
-// A tree, in postfix order, against a decoded table. The stack holds, for each finished tree, the set of the states that it belongs to.
-// From the top: `accept_tree` takes the record apart, `accept_nodes` picks a stack for the nodes in it, `evaluate` goes through them, one
-// `step` for each, and `accept_stack` answers for what they leave.
+// A tree, in postfix order, against a decoded table, in one walk. The stack holds, for each finished tree, the set of the states that it belongs to,
+// and how many nodes it has. From the top: `accept_tree` takes the record apart, `accept_nodes` picks a stack for the nodes in it, `evaluate` and `walk`
+// go through them, one `step` for each, and `accept_stack` answers for what they leave.
 ghost use Prim.Native.Nat.{ℕ, _+_, _*_, _/_, _≤_, _<_};
 ghost use mathlib.Core.Path.{_≡_};
 ghost use mathlib.Core.Bool.{cond};
-ghost use mathlib.Core.List.{List, [], List·Memᴰ};
-ghost use lib.ListN.{length, drop};
+ghost use mathlib.Core.List.{List, List·Memᴰ};
+ghost use lib.ListN.{length, take, drop};
 ghost use lib.Dec.{eqb};
 ghost use Rattle.lists.specs.Lists.{from, any};
 ghost use Rattle.sets.specs.Set.{member, emptySet, sameSet, withState};
@@ -14,14 +14,16 @@ ghost use Rattle.sets.specs.Entries.{entryAt};
 ghost use Rattle.sets.specs.Inner.{Has};
 ghost use Rattle.records.specs.Bytes as bytes;
 ghost use Rattle.records.specs.Record.{opened};
-ghost use Rattle.automaton.specs.Automaton.{Rule, WellFormed};
-ghost use Rattle.automaton.specs.Row.{ruleAt, rulesIn, Row, Rows};
+ghost use Rattle.automaton.specs.Automaton.{Automaton, WellFormed};
+ghost use Rattle.automaton.specs.Row.{ruleAt, Row, Rows};
 ghost use Rattle.automaton.specs.Decoded.{automatonIn};
-ghost use Rattle.trees.specs.Tree.{Tree};
-ghost use Rattle.trees.specs.Postfix.{isTreeRecord, push, pushAll};
-ghost use Rattle.trees.specs.Answers.{acceptanceOf};
-ghost use Rattle.trees.specs.Inner.{Evaluable, StackRoom, inOrder, ruleGives, gathered, Represents, Stacked};
-ghost use Rattle.trees.specs.Inner.{stackAcceptance, nodesAcceptance, treeAcceptance};
+ghost use Rattle.trees.specs.Postfix.{isTreeRecord};
+ghost use Rattle.trees.specs.Walk as walk;
+ghost use Rattle.trees.specs.Walk.{start, sizesOf, advance, advanceAll, closing};
+ghost use Rattle.trees.specs.Answers.{findingOf};
+ghost use Rattle.trees.specs.Inner.{Evaluable, StackRoom, inOrder, ruleGives, gathered, sum, stackIn, walkIn, steppedOf, Holdable};
+ghost use Rattle.trees.specs.Inner.{isSomewhere, isNew, Walked, WalkedFrom};
+ghost use Rattle.trees.specs.Inner.{nodesFinding, treeFinding};
 use automaton::Size;
 use automaton::children_of_rank;
 use automaton::target_of;
@@ -36,15 +38,30 @@ use sets::StateSet;
 use sets::entry;
 use sets::put_entry;
 
+// Of a tree that is not accepted, a subtree by the number of its top node in postfix order, counted from 0, and by how many nodes it has.
 pub enum Answer {
     Accepted,
-    Rejected,
+    Rejected { node: usize, size: usize },
     Refused(Refusal),
 }
 
-// The height of the stack, or the refusal.
-pub enum Height {
-    At(usize),
+// The first node whose tree belongs to no state, and how many nodes that tree has.
+pub enum First {
+    Nowhere,
+    At { node: usize, size: usize },
+}
+
+// What the walk holds between nodes, beside the stack: its height, how many nodes there were, and the first of them whose tree belongs to no state,
+// with the size of that tree.
+pub struct Held {
+    pub height: usize,
+    pub nodes: usize,
+    pub first: First,
+}
+
+// What is held next, or the refusal.
+pub enum Stepped {
+    On(Held),
     Refused(Refusal),
 }
 
@@ -77,14 +94,37 @@ fn fits(sets: &[u64], children: &[u8]) -> u64
     bit
 }
 
-// Whether one of the first `count` sets is empty.
+// Whether set e is empty. The words are read one by one, and not in pairs for which the processor would wait.
+fn is_empty_at(sets: &[u64], e: usize) -> bool
+    requires { ⌜ 4 * e + 4 ≤ length (now sets) ⌝ }
+    ensures { λ r. ⌜ r ≡ sameSet (entryAt (now (sets .entry)) e) emptySet ⌝ }
+{
+    if sets[4 * e] != 0 {
+        return false;
+    }
+    sets[4 * e + 1] | sets[4 * e + 2] | sets[4 * e + 3] == 0
+}
+
+// Whether one of the first `count` sets is empty. The first two go without a loop.
 fn has_empty(sets: &[u64], count: usize) -> bool
     requires { ⌜ 4 * count ≤ length (now sets) ⌝ }
     ensures { λ r. ⌜ r ≡ any (λ (e : ℕ). sameSet (entryAt (now (sets .entry)) e) emptySet) (from 0 count) ⌝ }
 {
-    let mut e: usize = 0;
+    if count == 0 {
+        return false;
+    }
+    if is_empty_at(sets, 0) {
+        return true;
+    }
+    if count == 1 {
+        return false;
+    }
+    if is_empty_at(sets, 1) {
+        return true;
+    }
+    let mut e: usize = 2;
     while e < count {
-        if entry(sets, e).same(StateSet::empty()) {
+        if is_empty_at(sets, e) {
             return true;
         }
         e += 1;
@@ -127,36 +167,113 @@ fn targets(rows: &[u8], numbers: &[u16], sets: &[u64], rank: usize) -> StateSet
     }
 }
 
-// One node: its children's sets on the stack make way for its own.
+// How many nodes a tree has whose top node's children have the first `count` sizes. At most two children go without a loop.
+fn tree_size(sizes: &[u16], count: usize) -> usize
+    requires { ⌜ (count ≤ length (now sizes)) × (sum (take count (now sizes)) < 65535) ⌝ }
+    ensures { λ r. ⌜ r ≡ 1 + sum (take count (now (sizes .entry))) ⌝ }
+{
+    if count == 0 {
+        return 1;
+    }
+    if count == 1 {
+        return 1 + sizes[0] as usize;
+    }
+    if count == 2 {
+        return 1 + sizes[0] as usize + sizes[1] as usize;
+    }
+    let mut size: usize = 1;
+    let mut j: usize = 0;
+    while j < count {
+        size += sizes[j] as usize;
+        j += 1;
+    }
+    size
+}
+
+// Whether a set has no state.
+fn is_empty(set: StateSet) -> bool
+    ensures { λ r. ⌜ r ≡ sameSet (set .words) emptySet ⌝ }
+{
+    let w = set.words;
+    w[0] | w[1] | w[2] | w[3] == 0
+}
+
+// The first node whose tree belongs to no state, after one more, whose tree has this size and belongs to these states.
+fn noted(first: First, node: usize, size: usize, states: StateSet) -> First
+    ensures { λ r. ⌜ r ≡ walk.noted first node size (sameSet (states .words) emptySet) ⌝ }
+{
+    match first {
+        First::At { node: i, size: s } => First::At { node: i, size: s },
+        First::Nowhere => {
+            if is_empty(states) {
+                First::At { node, size }
+            } else {
+                First::Nowhere
+            }
+        }
+    }
+}
+
+// Whether there is such a node.
+fn is_somewhere(first: First) -> bool
+    ensures { λ r. ⌜ r ≡ isSomewhere first ⌝ }
+{
+    match first {
+        First::At { .. } => true,
+        First::Nowhere => false,
+    }
+}
+
+// Whether there is one now and was none before.
+fn is_new(before: First, first: First) -> bool
+    ensures { λ r. ⌜ r ≡ isNew before first ⌝ }
+{
+    match before {
+        First::At { .. } => false,
+        First::Nowhere => is_somewhere(first),
+    }
+}
+
+// One node: its children's sets and sizes on the stack make way for its own.
 fn step(
     ranks: &[u8],
     rows: &[u8],
     index: &[u16],
     symbol: usize,
     stack: &mut [u64],
-    height: usize,
-) -> Height
-    requires { ⌜ ((k : ℕ) × Evaluable k (now ranks) (now rows) (now index)) ⌝ }
-    requires { ⌜ (height ≤ 1024) × StackRoom (height + 1) (now stack) ⌝ }
-    ensures { λ r. ⌜ ((k : ℕ) → Evaluable k (now (ranks .entry)) (now (rows .entry)) (now (index .entry))
-        → (trees : List Tree) → length trees ≡ height
-        → Represents (rulesIn (now (rows .entry)) k) (now (stack .entry)) trees
-        → Stacked (rulesIn (now (rows .entry)) k) (push (now (ranks .entry)) trees symbol) (now (stack .exit)) r) ⌝ }
+    sizes: &mut [u16],
+    held: Held,
+) -> Stepped
+    requires { ⌜ ((A : Automaton) × Evaluable A (now ranks) (now rows) (now index)) ⌝ }
+    requires { ⌜ (held .height ≤ 1024) × StackRoom (held .height + 1) (now stack) (now sizes) ⌝ }
+    requires { ⌜ (held .nodes < 16384) × (sizesOf (stackIn (now stack) (now sizes) (held .height)) ≡ held .nodes) ⌝ }
+    ensures { λ r. ⌜ ((A : Automaton) → Evaluable A (now (ranks .entry)) (now (rows .entry)) (now (index .entry))
+        → steppedOf (now (stack .exit)) (now (sizes .exit)) r
+        ≡ advance A (walkIn (now (stack .entry)) (now (sizes .entry)) held) symbol) ⌝ }
 {
     if symbol >= ranks.len() {
-        return Height::Refused(Refusal::UnknownSymbol);
+        return Stepped::Refused(Refusal::UnknownSymbol);
     }
     let rank = ranks[symbol] as usize;
+    let height = held.height;
     if height < rank {
-        return Height::Refused(Refusal::Unbalanced);
+        return Stepped::Refused(Refusal::Unbalanced);
     }
     let e = height - rank;
     if e >= 1024 {
-        return Height::Refused(Refusal::TreeAboveLimit);
+        return Stepped::Refused(Refusal::TreeAboveLimit);
     }
     let set = targets(rows, rules_of(index, symbol), &stack[4 * e..], rank);
+    let size = tree_size(&sizes[e..], rank);
     put_entry(stack, e, set);
-    Height::At(e + 1)
+    sizes[e] = size as u16;
+    let first = held.first;
+    let nodes = held.nodes;
+    Stepped::On(Held {
+        height: e + 1,
+        nodes: nodes + 1,
+        first: noted(first, nodes, size, set),
+    })
 }
 
 // The two-byte number from `at` on.
@@ -167,27 +284,77 @@ fn symbol_at(b: &[u8], at: usize) -> usize
     b[at] as usize + 256 * (b[at + 1] as usize)
 }
 
-// All nodes of a tree's body, one after the other, on an empty stack.
-fn evaluate(ranks: &[u8], rows: &[u8], index: &[u16], b: &[u8], stack: &mut [u64]) -> Height
-    requires { ⌜ ((k : ℕ) × Evaluable k (now ranks) (now rows) (now index)) ⌝ }
-    requires { ⌜ StackRoom (length (now b) / 2) (now stack) ⌝ }
-    ensures { λ r. ⌜ ((k : ℕ) → Evaluable k (now (ranks .entry)) (now (rows .entry)) (now (index .entry))
-        → Stacked (rulesIn (now (rows .entry)) k)
-        (pushAll (now (ranks .entry)) [] (bytes.numbers (now (b .entry)))) (now (stack .exit)) r) ⌝ }
+// The nodes of a tree's body from the next one on: to the end, or to the first whose tree belongs to no state where there was none before. So the
+// loop leaves `first` as it is.
+fn walk(
+    ranks: &[u8],
+    rows: &[u8],
+    index: &[u16],
+    b: &[u8],
+    stack: &mut [u64],
+    sizes: &mut [u16],
+    held: Held,
+) -> Stepped
+    requires { ⌜ ((A : Automaton) × Evaluable A (now ranks) (now rows) (now index) × Walked A (now b) (now stack) (now sizes) held) ⌝ }
+    requires { ⌜ (length (now b) / 2 ≤ 16384) × StackRoom (length (now b) / 2) (now stack) (now sizes) × (held .nodes < length (now b) / 2) ⌝ }
+    ensures { λ r. ⌜ ((A : Automaton) → Evaluable A (now (ranks .entry)) (now (rows .entry)) (now (index .entry))
+        → Walked A (now (b .entry)) (now (stack .entry)) (now (sizes .entry)) held
+        → WalkedFrom A (now (b .entry)) (now (stack .exit)) (now (sizes .exit)) (held .nodes) r) ⌝ }
 {
-    let mut height: usize = 0;
-    let mut i: usize = 0;
-    while i + 1 < b.len() {
-        let symbol = symbol_at(b, i);
-        match step(ranks, rows, index, symbol, stack, height) {
-            Height::Refused(cause) => return Height::Refused(cause),
-            Height::At(h) => {
-                height = h;
-                i += 2;
-            }
+    let first = held.first;
+    let mut height = held.height;
+    let mut nodes = held.nodes;
+    while nodes < b.len() / 2 {
+        let symbol = symbol_at(b, 2 * nodes);
+        let held = Held {
+            height,
+            nodes,
+            first,
+        };
+        let stepped = step(ranks, rows, index, symbol, stack, sizes, held);
+        let Stepped::On(next) = stepped else {
+            return stepped;
+        };
+        let noted = next.first;
+        if is_new(first, noted) {
+            return stepped;
+        }
+        height = next.height;
+        nodes = next.nodes;
+    }
+    Stepped::On(Held {
+        height,
+        nodes,
+        first,
+    })
+}
+
+// All nodes of a tree's body, one after the other, on an empty stack.
+fn evaluate(
+    ranks: &[u8],
+    rows: &[u8],
+    index: &[u16],
+    b: &[u8],
+    stack: &mut [u64],
+    sizes: &mut [u16],
+) -> Stepped
+    requires { ⌜ ((A : Automaton) × Evaluable A (now ranks) (now rows) (now index)) ⌝ }
+    requires { ⌜ (length (now b) / 2 ≤ 16384) × StackRoom (length (now b) / 2) (now stack) (now sizes) ⌝ }
+    ensures { λ r. ⌜ ((A : Automaton) → Evaluable A (now (ranks .entry)) (now (rows .entry)) (now (index .entry))
+        → steppedOf (now (stack .exit)) (now (sizes .exit)) r ≡ advanceAll A start (bytes.numbers (now (b .entry)))) ⌝ }
+{
+    let mut held = Held {
+        height: 0,
+        nodes: 0,
+        first: First::Nowhere,
+    };
+    while held.nodes < b.len() / 2 {
+        match walk(ranks, rows, index, b, stack, sizes, held) {
+            Stepped::Refused(cause) => return Stepped::Refused(cause),
+            Stepped::On(next) => held = next,
         }
     }
-    Height::At(height)
+    Stepped::On(held)
 }
 
 // Whether one of the final states is in the stack's lowest entry.
@@ -198,19 +365,27 @@ fn has_final(finals: StateSet, stack: &[u64]) -> bool
     !entry(stack, 0).meet(finals).same(StateSet::empty())
 }
 
-// The answer for the one tree on a stack of the given height.
-fn accept_stack(height: usize, finals: StateSet, stack: &[u64]) -> Answer
-    requires { ⌜ 4 ≤ length (now stack) ⌝ }
-    ensures { λ r. ⌜ ((rules : List Rule) (trees : List Tree) → length trees ≡ height → Represents rules (now (stack .entry)) trees
-        → acceptanceOf r ≡ stackAcceptance rules (statesIn 256 (finals .words)) trees) ⌝ }
+// The answer for the tree on the stack, if there is one alone. The subtree to be named is the first that belongs to no state, or the whole tree.
+fn accept_stack(held: Held, finals: StateSet, stack: &[u64]) -> Answer
+    requires { ⌜ (4 ≤ length (now stack)) × (held .height ≤ held .nodes) ⌝ }
+    ensures { λ r. ⌜ ((A : Automaton) (sizes : List ℕ) → A .states ≤ 256 → A .finals ≡ statesIn (A .states) (finals .words)
+        → Holdable A (walkIn (now (stack .entry)) sizes held) → findingOf r ≡ closing A (walkIn (now (stack .entry)) sizes held)) ⌝ }
 {
-    if height != 1 {
+    if held.height != 1 {
         return Answer::Refused(Refusal::Unbalanced);
     }
-    if !has_final(finals, stack) {
-        return Answer::Rejected;
+    if has_final(finals, stack) {
+        return Answer::Accepted;
     }
-    Answer::Accepted
+    let nodes = held.nodes;
+    let first = held.first;
+    match first {
+        First::At { node, size } => Answer::Rejected { node, size },
+        First::Nowhere => Answer::Rejected {
+            node: nodes - 1,
+            size: nodes,
+        },
+    }
 }
 
 // The answer for a tree's body, on a stack with room for its nodes.
@@ -221,32 +396,33 @@ fn accept_nodes_on(
     index: &[u16],
     b: &[u8],
     stack: &mut [u64],
+    sizes: &mut [u16],
 ) -> Answer
-    requires { ⌜ ((k : ℕ) × Evaluable k (now ranks) (now rows) (now index)) ⌝ }
-    requires { ⌜ StackRoom (length (now b) / 2) (now stack) × (4 ≤ length (now stack)) ⌝ }
-    ensures { λ r. ⌜ ((k : ℕ) → Evaluable k (now (ranks .entry)) (now (rows .entry)) (now (index .entry))
-        → acceptanceOf r ≡ nodesAcceptance (now (ranks .entry)) (statesIn 256 (finals .words))
-        (rulesIn (now (rows .entry)) k) (bytes.numbers (now (b .entry)))) ⌝ }
+    requires { ⌜ ((A : Automaton) × Evaluable A (now ranks) (now rows) (now index)) ⌝ }
+    requires { ⌜ (length (now b) / 2 ≤ 16384) × StackRoom (length (now b) / 2) (now stack) (now sizes) × (4 ≤ length (now stack)) ⌝ }
+    ensures { λ r. ⌜ ((A : Automaton) → Evaluable A (now (ranks .entry)) (now (rows .entry)) (now (index .entry))
+        → A .finals ≡ statesIn (A .states) (finals .words) → findingOf r ≡ nodesFinding A (bytes.numbers (now (b .entry)))) ⌝ }
 {
-    match evaluate(ranks, rows, index, b, stack) {
-        Height::Refused(cause) => Answer::Refused(cause),
-        Height::At(height) => accept_stack(height, finals, stack),
+    match evaluate(ranks, rows, index, b, stack, sizes) {
+        Stepped::Refused(cause) => Answer::Refused(cause),
+        Stepped::On(held) => accept_stack(held, finals, stack),
     }
 }
 
 // The answer for a tree's body; a body of at most 64 nodes gets a small stack, which is cleared sooner.
 fn accept_nodes(finals: StateSet, ranks: &[u8], rows: &[u8], index: &[u16], b: &[u8]) -> Answer
-    requires { ⌜ ((k : ℕ) × Evaluable k (now ranks) (now rows) (now index)) ⌝ }
-    ensures { λ r. ⌜ ((k : ℕ) → Evaluable k (now (ranks .entry)) (now (rows .entry)) (now (index .entry))
-        → acceptanceOf r ≡ nodesAcceptance (now (ranks .entry)) (statesIn 256 (finals .words))
-        (rulesIn (now (rows .entry)) k) (bytes.numbers (now (b .entry)))) ⌝ }
+    requires { ⌜ ((A : Automaton) × Evaluable A (now ranks) (now rows) (now index)) × (length (now b) / 2 ≤ 16384) ⌝ }
+    ensures { λ r. ⌜ ((A : Automaton) → Evaluable A (now (ranks .entry)) (now (rows .entry)) (now (index .entry))
+        → A .finals ≡ statesIn (A .states) (finals .words) → findingOf r ≡ nodesFinding A (bytes.numbers (now (b .entry)))) ⌝ }
 {
     if b.len() <= 128 {
         let mut stack: [u64; 256] = [0; 256];
-        return accept_nodes_on(finals, ranks, rows, index, b, &mut stack);
+        let mut sizes: [u16; 64] = [0; 64];
+        return accept_nodes_on(finals, ranks, rows, index, b, &mut stack, &mut sizes);
     }
     let mut stack: [u64; 4096] = [0; 4096];
-    accept_nodes_on(finals, ranks, rows, index, b, &mut stack)
+    let mut sizes: [u16; 1024] = [0; 1024];
+    accept_nodes_on(finals, ranks, rows, index, b, &mut stack, &mut sizes)
 }
 
 // Whether `t` is one record of kind 16 with an even body, and nothing after it.
@@ -266,7 +442,8 @@ fn is_tree(t: &[u8]) -> bool
     body(t).len() % 2 == 0
 }
 
-// Whether a decoded table accepts a tree, or the tree's first cause of refusal; the index is made in a lent array.
+// Whether a decoded table accepts a tree, and if not, the subtree to be named; or the tree's first cause of refusal. The index is made in a lent
+// array.
 pub fn accept_tree(
     size: Size,
     finals: StateSet,
@@ -278,8 +455,8 @@ pub fn accept_tree(
     requires { ⌜ (size .symbols ≤ length (now ranks)) × (257 + size .rules ≤ length (now index)) ⌝ }
     requires { ⌜ Rows (now rows) (size .rules) ⌝ }
     requires { ⌜ WellFormed (automatonIn size (finals .words) (now ranks) (now rows)) ⌝ }
-    ensures { λ r. ⌜ acceptanceOf r
-        ≡ treeAcceptance (automatonIn size (finals .words) (now (ranks .entry)) (now (rows .entry))) (now (tree .entry)) ⌝ }
+    ensures { λ r. ⌜ findingOf r
+        ≡ treeFinding (automatonIn size (finals .words) (now (ranks .entry)) (now (rows .entry))) (now (tree .entry)) ⌝ }
 {
     if !is_tree(tree) {
         return Answer::Refused(Refusal::NotATree);

@@ -1,6 +1,7 @@
 use crate::Call;
 use crate::library::{
-    CHECK_COUNTS, COMPARE_NUMBERS, JUDGE_NUMBERS, REDUCE_NUMBERS, RELATE_NUMBERS, REPORT_NUMBERS,
+    CHECK_COUNTS, CHECK_NUMBERS, COMPARE_NUMBERS, JUDGE_NUMBERS, REDUCE_NUMBERS, RELATE_NUMBERS,
+    REPORT_NUMBERS,
 };
 
 /// Calls with one thing plainer: an array of the length that is needed, an
@@ -8,9 +9,10 @@ use crate::library::{
 pub fn plainer(call: &Call) -> Vec<Call> {
     match *call {
         Call::Judge { .. } => vec![Call::Judge { numbers: JUDGE_NUMBERS }],
-        Call::Check { ref counts, ref tree } => {
-            let check = |counts| Call::Check { counts, tree: tree.clone() };
-            plainer_counts(counts).into_iter().map(check).collect()
+        Call::Check { ref counts, ref tree, numbers } => {
+            let check = |counts, numbers| Call::Check { counts, tree: tree.clone(), numbers };
+            let plainer = plainer_counts(counts).into_iter().map(|counts| check(counts, numbers));
+            plainer.chain([check(counts.clone(), CHECK_NUMBERS)]).collect()
         }
         Call::Relate { room, numbers } => {
             let rooms = nearer(room).map(|room| Call::Relate { room, numbers });

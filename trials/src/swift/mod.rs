@@ -9,7 +9,7 @@ mod set;
 mod simulation;
 mod table;
 
-use checker::Refusal;
+use checker::{Refusal, Subtree};
 
 use crate::library::{NO, OK, SHORT, answer, number};
 use crate::{Lent, Library};
@@ -32,13 +32,23 @@ impl Library for Swift {
         })
     }
 
-    fn check(&self, counts: &mut Lent<u32>, table: &mut Lent<u8>, tree: &mut Lent<u8>) -> u32 {
+    fn check(
+        &self,
+        counts: &mut Lent<u32>,
+        table: &mut Lent<u8>,
+        tree: &mut Lent<u8>,
+        numbers: &mut Lent<usize>,
+    ) -> u32 {
         let Some([accepted, rejected, refused]) = counts.content_mut().first_chunk_mut() else {
             return SHORT;
         };
-        let (count, answer) = match check::accepts(table.content(), tree.content()) {
-            Ok(true) => (accepted, OK),
-            Ok(false) => (rejected, NO),
+        let Some(place) = numbers.content_mut().first_chunk_mut() else { return SHORT };
+        let (count, answer) = match check::rejected_subtree(table.content(), tree.content()) {
+            Ok(None) => (accepted, OK),
+            Ok(Some(Subtree { node, size })) => {
+                *place = [node, size];
+                (rejected, NO)
+            }
             Err(refusal) => (refused, number(refusal)),
         };
         *count = count.saturating_add(1);

@@ -4,9 +4,9 @@ use super::{Drawn, any_rule, with_finals};
 use crate::damage::damage;
 use crate::random::Random;
 
-/// Ranks of the symbols of `counting`.
+/// Ranks of the symbols of `counting`. The last three have no rules.
 const LEAF: usize = 0;
-const RANKS: [u8; 3] = [0, 1, 2];
+const RANKS: [u8; 6] = [0, 1, 2, 0, 1, 2];
 
 /// Counts the nodes of a tree by some measure, up to a small number of states:
 /// a unary node adds one, a binary node adds its children up. Up to two rules
@@ -20,7 +20,7 @@ pub fn counting(random: &mut Random) -> Automaton {
         rules.extend((0..states).map(|r| Rule::new(2, state(q + r), &[state(q), state(r)])));
     }
     for _ in 0..random.below(3) {
-        rules.push(any_rule(random, &RANKS, states));
+        rules.push(any_rule(random, &RANKS[..3], states));
     }
     let finals = vec![random.below(states) as u16];
     Automaton { states, ranks: RANKS.to_vec(), finals, rules }

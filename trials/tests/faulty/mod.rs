@@ -2,7 +2,7 @@
 
 use std::cell::RefCell;
 
-use checker::{Automaton, MAX_NODES, Rule, Simulation};
+use checker::{Automaton, BySymbol, MAX_NODES, Rule, Simulation, StateSet, Subtree, Tree};
 use trials::{Lent, Library, NO, OK, Plain, ROOM, SHORT, layout};
 
 #[derive(Clone, Copy, Debug, PartialEq, Eq)]
@@ -45,6 +45,30 @@ pub enum Fault {
     MatchedRule,
     /// No tree is accepted by the table that was written last.
     ReducedTableRejects,
+    /// The node of a subtree is counted from 1.
+    NodeFromOne,
+    /// The top node of a subtree does not count.
+    SizeWithoutTop,
+    /// The last subtree that belongs to no state is named.
+    LastSubtree,
+    /// The whole tree is named, whatever is in it.
+    WholeTree,
+    /// The first subtree that belongs to no final state is named.
+    SubtreeWithoutFinal,
+    /// The subtree that the reduced table names.
+    SubtreeOfReduced,
+    /// The whole tree is named by the table that was written last.
+    WholeTreeOfReduced,
+    /// The numbers of the whole tree are written though it is accepted.
+    SubtreeOfAccepted,
+    /// A number is written though the tree is refused.
+    SubtreeOfRefused,
+    /// A number behind those of a subtree is written.
+    NumberBehindSubtree,
+    /// A check counts though the array for numbers is too short.
+    CountedWhenShort,
+    /// A number is written where the array for counts is too short.
+    SubtreeWhenShort,
 }
 
 pub struct Faulty {
@@ -59,6 +83,11 @@ impl Faulty {
 
     fn has(&self, fault: Fault) -> bool {
         self.fault == fault
+    }
+
+    /// Whether this is the table that was written last.
+    fn wrote(&self, table: &Lent<u8>) -> bool {
+        *self.written.borrow() == table.content()
     }
 }
 
@@ -75,9 +104,15 @@ impl Library for Faulty {
         }
     }
 
-    fn check(&self, counts: &mut Lent<u32>, table: &mut Lent<u8>, tree: &mut Lent<u8>) -> u32 {
+    fn check(
+        &self,
+        counts: &mut Lent<u32>,
+        table: &mut Lent<u8>,
+        tree: &mut Lent<u8>,
+        numbers: &mut Lent<usize>,
+    ) -> u32 {
         let before = counts.content().to_vec();
-        let answer = Plain.check(counts, table, tree);
+        let answer = Plain.check(counts, table, tree, numbers);
         match (self.fault, answer) {
             (Fault::AcceptedTwice, OK) => change(counts, 0, |count| count.saturating_add(1)),
             (Fault::CountWraps, OK) if before[0] == u32::MAX => change(counts, 0, |_| 0),
@@ -85,9 +120,27 @@ impl Library for Faulty {
             (Fault::TreeWritten, OK | NO) => change(tree, 6, |byte| byte ^ 1),
             (Fault::WideRuleForgotten, OK) if has_wide_rule(table.content()) => return NO,
             (Fault::OneNodeTooMany, 11) if nodes(tree.content()) == MAX_NODES + 1 => return NO,
-            (Fault::ReducedTableRejects, OK) if *self.written.borrow() == table.content() => {
-                return NO;
+            (Fault::ReducedTableRejects, OK) if self.wrote(table) => return NO,
+            (Fault::NodeFromOne, NO) => change(numbers, 0, |node| node + 1),
+            (Fault::SizeWithoutTop, NO) => change(numbers, 1, |size| size - 1),
+            (Fault::LastSubtree, NO) => {
+                name(numbers, table, tree, |_, states| states.iter().rposition(StateSet::is_empty));
             }
+            (Fault::WholeTree, NO) => name(numbers, table, tree, |_, _| None),
+            (Fault::SubtreeWithoutFinal, NO) => name(numbers, table, tree, without_final),
+            (Fault::SubtreeOfReduced, NO) => {
+                Plain.check(&mut Lent::filled(3, 0), &mut reduced(table), tree, numbers);
+            }
+            (Fault::WholeTreeOfReduced, NO) if self.wrote(table) => {
+                name(numbers, table, tree, |_, _| None);
+            }
+            (Fault::SubtreeOfAccepted, OK) => name(numbers, table, tree, |_, _| None),
+            (Fault::SubtreeOfRefused, 8..=11) => change(numbers, 0, |_| 0),
+            (Fault::NumberBehindSubtree, NO) => change(numbers, 2, |number| number + 1),
+            (Fault::CountedWhenShort, SHORT) if before.len() >= 3 => {
+                Plain.check(counts, table, tree, &mut Lent::filled(2, 0));
+            }
+            (Fault::SubtreeWhenShort, SHORT) if before.len() < 3 => change(numbers, 0, |_| 0),
             _ => {}
         }
         answer
@@ -171,6 +224,35 @@ fn has_wide_rule(table: &[u8]) -> bool {
 
 fn nodes(tree: &[u8]) -> usize {
     layout::symbols(tree).map_or(0, |symbols| symbols.len())
+}
+
+/// Names the subtree of the node that `pick` gives, or the whole tree. It gets
+/// the states of each subtree.
+fn name(
+    numbers: &mut Lent<usize>,
+    table: &Lent<u8>,
+    tree: &Lent<u8>,
+    pick: impl FnOnce(&Automaton, &[StateSet]) -> Option<usize>,
+) {
+    let automaton = Automaton::read(table.content()).unwrap();
+    let tree = Tree::read(tree.content(), &automaton.ranks).unwrap();
+    let states = BySymbol::new(&automaton).evaluate(tree);
+    let node = pick(&automaton, &states).unwrap_or(states.len() - 1);
+    let Subtree { node, size } = tree.subtree(node);
+    change(numbers, 0, |_| node);
+    change(numbers, 1, |_| size);
+}
+
+/// The first subtree that belongs to no final state.
+fn without_final(automaton: &Automaton, states: &[StateSet]) -> Option<usize> {
+    let is_final = |states: &StateSet| automaton.finals.iter().any(|&q| states.contains(q));
+    states.iter().position(|states| !is_final(states))
+}
+
+fn reduced(table: &Lent<u8>) -> Lent<u8> {
+    let mut out = vec![0; table.length()];
+    let length = checker::reduce(table.content(), &mut out).unwrap().length;
+    Lent::holding(&out[..length], 0)
 }
 
 /// A rule of `q` that a rule of `r` matches.

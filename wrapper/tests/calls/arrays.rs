@@ -24,13 +24,14 @@ fn judge_short() {
 
 #[test]
 fn check_short() {
+    let short = [(0, 0), (0, 2), (2, 2), (2, 9), (2, 1), (3, 0), (3, 1), (9, 1)];
     for table in tables() {
-        for length in 0..3 {
-            let mut counts = vec![7; length];
+        for (count, length) in short {
+            let (mut counts, mut lent) = (vec![7; count], numbers(length));
             for nodes in [&[B, A, F][..], &[A], &[F]] {
-                assert_eq!(raw::check(&mut counts, &table, &tree(nodes)), SHORT);
+                assert_eq!(raw::check(&mut counts, &table, &tree(nodes), &mut lent), SHORT);
             }
-            assert_eq!(counts, vec![7; length]);
+            assert_eq!((counts, lent), (vec![7; count], numbers(length)));
         }
     }
 }
@@ -92,14 +93,16 @@ fn judge_long() {
 
 #[test]
 fn check_long() {
-    for length in [3, 4, 9] {
-        let mut counts = vec![7; length];
-        assert_eq!(raw::check(&mut counts, &bench(), &tree(&[B, A, F])), OK);
-        assert_eq!(counts, begun(&[8, 7, 7], vec![7; length]));
-        assert_eq!(raw::check(&mut counts, &bench(), &tree(&[A])), NO);
-        assert_eq!(counts, begun(&[8, 8, 7], vec![7; length]));
-        assert_eq!(raw::check(&mut counts, &bench(), &tree(&[F])), 10);
-        assert_eq!(counts, begun(&[8, 8, 8], vec![7; length]));
+    for (count, length) in [(3, 2), (4, 2), (3, 3), (9, 9)] {
+        let (mut counts, mut lent) = (vec![7; count], numbers(length));
+        assert_eq!(raw::check(&mut counts, &bench(), &tree(&[B, A, F]), &mut lent), OK);
+        assert_eq!(counts, begun(&[8, 7, 7], vec![7; count]));
+        assert_eq!(raw::check(&mut counts, &bench(), &tree(&[F]), &mut lent), 10);
+        assert_eq!(counts, begun(&[8, 7, 8], vec![7; count]));
+        assert_eq!(lent, numbers(length));
+        assert_eq!(raw::check(&mut counts, &bench(), &tree(&[A]), &mut lent), NO);
+        assert_eq!(counts, begun(&[8, 8, 8], vec![7; count]));
+        assert_eq!(lent, begun(&[0, 1], numbers(length)));
     }
 }
 

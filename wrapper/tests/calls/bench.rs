@@ -85,12 +85,12 @@ fn b6() {
 
 #[test]
 fn b7() {
-    assert_eq!(answer(&tree(&[A])), Answer::Rejected);
+    assert_eq!(answer(&tree(&[A])), rejected(0, 1));
 }
 
 #[test]
 fn b8() {
-    assert_eq!(answer(&tree(&[A, A, F, A, F])), Answer::Rejected);
+    assert_eq!(answer(&tree(&[A, A, F, A, F])), rejected(4, 5));
 }
 
 #[test]
@@ -135,6 +135,15 @@ fn b12() {
     assert_eq!(compare(&crossed, 2, 3), Ok(Comparison::Rule(2)));
 }
 
+/// An answer but for the subtree: whether the tree is accepted, or the refusal.
+fn kind(answer: Answer) -> Result<bool, Refusal> {
+    match answer {
+        Answer::Accepted => Ok(true),
+        Answer::Rejected(_) => Ok(false),
+        Answer::Refused(refusal) => Err(refusal),
+    }
+}
+
 /// T accepts f(x, y) with leaves x and y, and nothing else: so does its reduction.
 #[test]
 fn both_tables_accept_the_same_trees() {
@@ -146,7 +155,8 @@ fn both_tables_accept_the_same_trees() {
         for nodes in &all {
             let before = check(Counts::fresh(), &table, &tree(nodes));
             let after = check(Counts::fresh(), &shorter, &tree(nodes));
-            assert_eq!(before, after, "{nodes:?}");
+            assert_eq!(before.counts, after.counts, "{nodes:?}");
+            assert_eq!(kind(before.answer), kind(after.answer), "{nodes:?}");
             let two_leaves = matches!(nodes[..], [A | B, A | B, F]);
             assert_eq!(before.answer == Answer::Accepted, two_leaves, "{nodes:?}");
         }

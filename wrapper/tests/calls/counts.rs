@@ -19,11 +19,11 @@ fn each_answer_counts_one() {
     let shape = Answer::Refused(Refusal::Unbalanced);
     let steps = [
         (tree(&[B, A, F]), Answer::Accepted, counts(1, 0, 0)),
-        (tree(&[A]), Answer::Rejected, counts(1, 1, 0)),
+        (tree(&[A]), rejected(0, 1), counts(1, 1, 0)),
         (tree(&[]), shape, counts(1, 1, 1)),
         (tree(&[F]), shape, counts(1, 1, 2)),
         (tree(&[A, A, F]), Answer::Accepted, counts(2, 1, 2)),
-        (tree(&[A, A, F, A, F]), Answer::Rejected, counts(2, 2, 2)),
+        (tree(&[A, A, F, A, F]), rejected(4, 5), counts(2, 2, 2)),
     ];
     let mut before = Counts::fresh();
     for (tree, answer, after) in steps {

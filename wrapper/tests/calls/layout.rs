@@ -1,5 +1,7 @@
 //! Tables and trees written record by record, and memory whose changes show.
 
+use fensullay::{Answer, Subtree};
+
 pub const A: u16 = 0;
 pub const B: u16 = 1;
 pub const F: u16 = 2;
@@ -66,6 +68,11 @@ pub fn longest() -> Vec<u8> {
     let rules: Vec<Vec<u8>> =
         (0..1024).map(|i| rule(i % 256, &[i % 255; 8], 255 - i % 256)).collect();
     table(256, &[8; 256], &finals, &rules)
+}
+
+/// The answer for a tree that is not accepted.
+pub fn rejected(node: usize, size: usize) -> Answer {
+    Answer::Rejected(Subtree { node, size })
 }
 
 /// Bytes to lend, of which no two neighbours are equal.

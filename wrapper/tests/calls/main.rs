@@ -1,5 +1,6 @@
-//! The calls against document 01: its bench table, its edges, every refusal, and which lent memory
-//! stays as it was. Every expected value is read off document 01 by hand.
+//! The calls against documents 01 and 02: the bench table, the edges, every refusal, the subtrees
+//! that a check names, and which lent memory stays as it was. Every expected value is read off the
+//! documents by hand.
 
 mod arrays;
 mod bench;
@@ -8,3 +9,4 @@ mod edges;
 mod layout;
 mod raw;
 mod refusals;
+mod subtrees;

@@ -8,7 +8,7 @@ pub fn judge(table: &[u8], numbers: &mut [usize]) -> u32 {
     }
 }
 
-pub fn check(counts: &mut [u32], table: &[u8], tree: &[u8]) -> u32 {
+pub fn check(counts: &mut [u32], table: &[u8], tree: &[u8], numbers: &mut [usize]) -> u32 {
     unsafe {
         sys::fensullay_check(
             counts.as_mut_ptr(),
@@ -17,6 +17,8 @@ pub fn check(counts: &mut [u32], table: &[u8], tree: &[u8]) -> u32 {
             table.len(),
             tree.as_ptr(),
             tree.len(),
+            numbers.as_mut_ptr(),
+            numbers.len(),
         )
     }
 }

@@ -22,6 +22,7 @@ fn refuses_table(table: &[u8], refusal: Refusal) {
         let checked = check(Counts::fresh(), table, &tree);
         assert_eq!(checked.answer, Answer::Refused(refusal));
         assert_eq!(checked.counts, Counts { refused: 1, ..Counts::fresh() });
+        assert_eq!(raw::check(&mut [0; 3], table, &tree, &mut lent), number);
     }
     for room in [0, 30_000] {
         let mut out = bytes(room);
@@ -47,6 +48,9 @@ fn refuses_tree(tree: &[u8], refusal: Refusal) {
     let checked = check(counts, &bench(), tree);
     assert_eq!(checked.answer, Answer::Refused(refusal));
     assert_eq!(checked.counts, Counts { refused: 7, ..counts });
+    let mut lent = numbers(3);
+    assert_eq!(raw::check(&mut [0; 3], &bench(), tree, &mut lent), refusal.number());
+    assert_eq!(lent, numbers(3));
     assert_eq!(tree, before);
 }
 

@@ -2,11 +2,11 @@
 
 mod cases;
 
-use checker::{Answer, Counts, check};
+use checker::{Answer, Counts, Subtree, check};
 
 use crate::suite::{Suite, line, sized};
 use crate::tables::LONGEST;
-use cases::{Case, Expected};
+use cases::{Case, Due, Expected};
 
 /// The longest tree of a case.
 const LONGEST_TREE: usize = 40_000;
@@ -17,8 +17,9 @@ pub fn suite() -> Suite {
         let [accepted, rejected, refused] = before;
         let (answer, counts) = check(&table, &tree, Counts { accepted, rejected, refused });
         let after = [counts.accepted, counts.rejected, counts.refused];
-        if let Some(Expected { answer: due, after: counts_due }) = expected {
-            assert_eq!(number(answer), due, "the answer for {name}");
+        let answer = due(answer);
+        if let Some(Expected { answer: answer_due, after: counts_due }) = expected {
+            assert_eq!(answer, answer_due, "the answer for {name}");
             assert_eq!(after, counts_due, "the counts for {name}");
         }
         assert!(table.len() <= LONGEST, "the table of {name} is too long");
@@ -31,20 +32,19 @@ pub fn suite() -> Suite {
     suite
 }
 
-/// The number of a refusal, if it is one, or whether the tree is accepted.
-fn number(answer: Answer) -> Result<bool, u8> {
+fn due(answer: Answer) -> Due {
     match answer {
-        Answer::Accepted => Ok(true),
-        Answer::Rejected => Ok(false),
-        Answer::Refused(refusal) => Err(refusal.number()),
+        Answer::Accepted => Due::Accepted,
+        Answer::Rejected(Subtree { node, size }) => Due::Rejected(node, size),
+        Answer::Refused(refusal) => Due::Refused(refusal.number()),
     }
 }
 
-fn lines(answer: Answer, after: [u32; 3]) -> String {
-    let mut out = match number(answer) {
-        Ok(true) => "accepted\n".to_string(),
-        Ok(false) => "rejected\n".to_string(),
-        Err(number) => format!("refused {number}\n"),
+fn lines(answer: Due, after: [u32; 3]) -> String {
+    let mut out = match answer {
+        Due::Accepted => "accepted\n".to_string(),
+        Due::Rejected(node, size) => format!("rejected {node} {size}\n"),
+        Due::Refused(number) => format!("refused {number}\n"),
     };
     line(&mut out, "counts", after);
     out

@@ -1,108 +1,171 @@
--- What reading nodes leaves on the stack: a node, from what its children left there, and node by node the nodes of a body. From `push` in
--- Postfix and the sets of Stacks; for `step`, `evaluate` and the answer in Acceptance.
-use Prim.Native.Nat.{ℕ, _+_, _-_, _*_, _≤_, _<_}
+-- One node of the walk in arrays: what `step` leaves is what `advance` gives. And the walk of a body, node by node. From `rankOn` in Postfix and the
+-- stack in Stacks; for `step` and `evaluate`.
+use Prim.Native.Nat.{ℕ, _+_, _-_, _*_, _/_, _≤_, _<_}
+use native.Mathlib.Numerals.{add-one}
 use native.Mathlib.Omega.{arith}
-use mathlib.Core.Path.{_≡_, refl, sym, ap, _∙_}
-use mathlib.Core.List.{List, [], List·Memᴰ}
-use lib.ListN.{length, drop, getD, length-drop}
+use mathlib.Core.Path.{_≡_, refl, sym, ap, subst, _∙_}
+use mathlib.Core.List.{List, map, reverse}
+use mathlib.Core.Bool.{Bool, true, false, true≢false}
+use lib.ListN.{length, take, drop, getD, set}
 use Rattle.lists.specs.Over.{over}
-use Rattle.lists.specs.Lists.{any}
-use Rattle.sets.specs.Inner.{Has}
-use Rattle.records.specs.Read.{Read, found, refused, _>>=_}
+use Rattle.lists.specs.Lists.{from, any}
+use Rattle.sets.specs.Set.{emptySet, sameSet}
+use Rattle.sets.specs.Inner.{statesIn, Has}
+use Rattle.sets.proofs.StateSets.{Bounded}
+use Rattle.records.specs.Read.{found, refused, _>>=_}
 use Rattle.records.specs.Bytes.{number2, numbers}
 use Rattle.records.specs.declared.refusal.Refusal.{Refusal}
-use Rattle.records.specs.Refusal.{numberOf}
 use Rattle.records.proofs.Fields.{Bytes, numbers-step, numbers-end}
-use Rattle.automaton.specs.Automaton.{Rule}
-use Rattle.automaton.specs.Row.{ruleAt, rulesIn, Row}
+use Rattle.automaton.specs.Automaton.{Automaton}
 use Rattle.indexing.specs.Index.{numbersOf}
-use Rattle.indexing.proofs.Indexing.{keyed-members}
-use Rattle.trees.specs.Tree.{Tree}
-use Rattle.trees.specs.Postfix.{push, pushAll}
-use Rattle.trees.specs.Inner.{Evaluable, ruleGives, Entries, Represents, Stacked}
-use Rattle.trees.specs.declared.evaluation.Height.{Height}
-use Rattle.trees.specs.declared.evaluation.Height.the-variants.{At, Refused}
-use Rattle.trees.proofs.Postfix.{push-found, pushed}
-use Rattle.trees.proofs.evaluation.Stacks.{represents-put, node-belongs}
+use Rattle.trees.specs.Walk.{Waiting, Walk, start, sizesOf, noted, onto, advance, advanceAll, joined}
+use Rattle.trees.specs.Inner.{Evaluable, ruleGives, sum, waitingAt, stackIn, walkIn, steppedOf, Holdable, Walked}
+use Rattle.trees.specs.Inner.{isSomewhere, isNew, WalkedFrom}
+use Rattle.trees.specs.declared.evaluation.Held.{Held}
+use Rattle.trees.specs.declared.evaluation.First.{First}
+use Rattle.trees.specs.declared.evaluation.First.the-variants.{Nowhere, At}
+use Rattle.trees.specs.declared.evaluation.Stepped.{Stepped}
+use Rattle.trees.specs.declared.evaluation.Stepped.the-variants.{On, Refused}
+use Rattle.trees.proofs.Postfix.{rank-unknown, rank-unbalanced, rank-above-limit, rank-found}
+use Rattle.trees.proofs.Walking.{sizes-parts, sizes-reverse, start-holdable, advance-holdable, advance-counts, advance-notes}
+use Rattle.trees.proofs.evaluation.Stacks.{length-stack, stack-below, stack-children, sizes-sum, no-states, node-joined, put-stack}
 
--- The rules that an index has for a symbol.
-pub rules-of-symbol-ranked : (k : ℕ) (ranks rows index : List ℕ) → Evaluable k ranks rows index → (f : ℕ) → f < length ranks
-    → (i : ℕ) → List·Memᴰ i (numbersOf index f) → Row rows i × (getD ranks f 0 ≡ length (ruleAt rows i .children))
-rules-of-symbol-ranked k ranks rows index v f known i m =
-    let (low, symbol) = keyed-members (λ (u : Rule). u .symbol) rows f k i (rw (v .index-is .numbers f known) at m) in
-    (v .rules .row i (omega arith), rw (← symbol) (sym (v .arity i (omega arith))))
+-- The r topmost sizes add up to no more than all of them.
+pub sizes-few : (words sizes : List ℕ) (h r : ℕ) → r ≤ h → h ≤ length sizes
+    → sum (take r (drop (h - r) sizes)) ≤ sizesOf (stackIn words sizes h)
+sizes-few words sizes h r l room =
+    let tall : h ≡ r + (h - r) = omega arith in
+    let stack = stackIn words sizes (r + (h - r)) in
+    let same : sizesOf (stackIn words sizes h) ≡ sizesOf stack = ap (λ (n : ℕ). sizesOf (stackIn words sizes n)) tall in
+    let top = sym (sizes-sum words sizes (h - r) r (omega arith)) ∙ ap sizesOf (sym (stack-children words sizes r (h - r))) ∙ sizes-reverse (take r stack) in
+    omega (arith, sizes-parts r stack)
 
--- A node whose children are there: its set stands where theirs stood.
-pub stacked-node : (k : ℕ) (ranks rows index : List ℕ) → Evaluable k ranks rows index → Bytes rows
-    → (stack : List ℕ) (trees : List Tree) (height f : ℕ) → length trees ≡ height
-    → Represents (rulesIn rows k) stack trees → f < length ranks → getD ranks f 0 ≤ height → height - getD ranks f 0 < 1024
-    → 4 * (height - getD ranks f 0) + 4 ≤ length stack → (set : List ℕ) → length set ≡ 4
-    → Has set (λ (q : ℕ). any (ruleGives rows (drop (4 * (height - getD ranks f 0)) stack) q) (numbersOf index f))
-    → Stacked (rulesIn rows k) (push ranks trees f) (over stack (4 * (height - getD ranks f 0)) set)
-    (At (height - getD ranks f 0 + 1))
-unfolding Stacked
-stacked-node k ranks rows index v bytes stack trees height f high represents known enough few room set four is =
-    let r = getD ranks f 0 in
-    let below = length-drop r trees in (
-      _,
-      push-found ranks trees f known (omega arith) (omega arith),
-      omega arith,
-      represents-put (rulesIn rows k) stack r trees _ set (height - r) (omega arith) four room
-          (λ q low. is q low ∙ rw (v .index-is .numbers f known)
-          (node-belongs ranks rows k bytes (v .arity) stack trees represents f (omega arith) (height - r) q (omega arith)))
-          represents,
-    )
+module _ {A : Automaton} {ranks rows index : List ℕ} (v : Evaluable A ranks rows index) (words sizes : List ℕ) (held : Held) (f : ℕ) where
+  abbrev height : ℕ
+  height = held .height
 
-push-length : (ranks : List ℕ) (trees next : List Tree) (f : ℕ) → push ranks trees f ≡ found next
-    → (length next ≤ 1024) × (length next ≤ length trees + 1)
-push-length ranks trees next f e =
-    let p = pushed ranks trees f e in
-    let below = length-drop (getD ranks f 0) trees in
-    rw (← (p .stacked)) (omega (arith, p .few), omega arith)
+  pub advance-unknown : length ranks ≤ f → refused 9 ≡ advance A (walkIn words sizes held) f
+  unfolding advance walkIn _>>=_
+  advance-unknown h = rw (← v .ranks-are, rank-unknown ranks (length (stackIn words sizes height)) f h)
 
--- The nodes of a body from an index on are still to be read, on the trees that the words hold.
-module _ (rules : List Rule) (ranks b : List ℕ) where
-  pub record Reading (words : List ℕ) (height i : ℕ) : Type 0 where
-    pub trees : List Tree
-    pub tall : length trees ≡ height
-    pub low : height ≤ 1024
-    pub few : 2 * height ≤ i
-    pub represents : Represents rules words trees
-    pub left : pushAll ranks [] (numbers b) ≡ pushAll ranks trees (numbers (drop i b))
+  module _ (known : f < length ranks) where
+    pub advance-unbalanced : height < getD ranks f 0 → refused 10 ≡ advance A (walkIn words sizes held) f
+    unfolding advance walkIn _>>=_
+    advance-unbalanced h = rw (length-stack, ← v .ranks-are, rank-unbalanced ranks height f known h)
 
-  pub reading-begins : (words : List ℕ) → Reading words 0 0
-  unfolding Represents Entries
-  reading-begins words = record { trees = []; tall = refl; low = omega arith; few = omega arith; represents = tt; left = refl }
+    module _ (enough : getD ranks f 0 ≤ height) where
+      pub advance-above-limit : 1024 ≤ height - getD ranks f 0 → refused 11 ≡ advance A (walkIn words sizes held) f
+      unfolding advance walkIn _>>=_
+      advance-above-limit h = rw (length-stack, ← v .ranks-are, rank-above-limit ranks height f known enough h)
 
-  module _ {words : List ℕ} {height i : ℕ} (r : Reading words height i) where
-    pub reading-ends : length b ≤ i + 1 → Stacked rules (pushAll ranks [] (numbers b)) words (At height)
-    unfolding pushAll Stacked
-    reading-ends h = (r .trees, r .left ∙ rw (numbers-end b i h), r .tall, r .represents)
+      module _ (few : height - getD ranks f 0 < 1024) (bytes : Bytes rows) (room : height ≤ length sizes)
+          (place : height - getD ranks f 0 < length sizes) (place4 : 4 * (height - getD ranks f 0) + 4 ≤ length words)
+          (new : List ℕ) (four : length new ≡ 4) (bounded : Bounded new)
+          (has : Has new (λ (q : ℕ). any (ruleGives rows (drop (4 * (height - getD ranks f 0)) words) q) (numbersOf index f)))
+          (size : ℕ) (is : size ≡ 1 + sum (take (getD ranks f 0) (drop (height - getD ranks f 0) sizes))) where
+        pub advance-node :
+            found (walkIn (over words (4 * (height - getD ranks f 0)) new) (set sizes (height - getD ranks f 0) size) (record {
+              height = height - getD ranks f 0 + 1;
+              nodes = held .nodes + 1;
+              first = noted (held .first) (held .nodes) size (sameSet new emptySet);
+            }))
+            ≡ advance A (walkIn words sizes held) f
+        unfolding advance walkIn onto joined _>>=_
+        advance-node =
+            let r = getD ranks f 0 in
+            let e = height - r in
+            let tall : height ≡ r + e = omega arith in
+            let stack = stackIn words sizes in
+            let top : record { states = statesIn 256 new; size = size } ≡ joined A f (map (waitingAt words sizes) (from e r)) =
+            rw is (node-joined v f known bytes words sizes e new has (omega arith)) in
+            let taken : reverse (take r (stack height)) ≡ map (waitingAt words sizes) (from e r) =
+            ap (λ (h : ℕ). reverse (take r (stack h))) tall ∙ stack-children words sizes r e in
+            let left : drop r (stack height) ≡ stack e = ap (λ (h : ℕ). drop r (stack h)) tall ∙ stack-below words sizes r e in
+            rw (
+              length-stack words sizes height,
+              ← v .ranks-are,
+              rank-found ranks height f known enough few,
+              taken,
+              left,
+              put-stack words sizes new e size four place4 place,
+              no-states new four bounded,
+              add-one,
+            )
+            (ap (λ (w : Waiting). found (onto (walkIn words sizes held) w (stack e))) top)
 
-    module _ (h : i + 1 < length b) (f : ℕ) (is : f ≡ number2 (drop i b)) (words′ : List ℕ) (answer : Height)
-        (s : Stacked rules (push ranks (r .trees) f) words′ answer) where
-      left-after : pushAll ranks [] (numbers b)
-          ≡ push ranks (r .trees) f >>= (λ (next : List Tree). pushAll ranks next (numbers (drop (i + 2) b)))
-      unfolding pushAll
-      left-after = r .left ∙ rw (numbers-step b i h, ← is)
+-- A node that is noted stays, and one that is not new is none.
+noted-stays : (first : First) (i size : ℕ) (bad : Bool) → isNew first (noted first i size bad) ≡ false
+    → noted first i size bad ≡ first
+unfolding noted isSomewhere isNew
+noted-stays (At j s) i size bad h = refl
+noted-stays Nowhere i size true h = absurd (true≢false h)
+noted-stays Nowhere i size false h = refl
 
-      pub reading-refused : (cause : Refusal) → answer ≡ Refused cause
-          → Stacked rules (pushAll ranks [] (numbers b)) words′ (Refused cause)
-      unfolding Stacked _>>=_
-      reading-refused cause e = let none : push ranks (r .trees) f ≡ refused (numberOf cause) = rw e at s in left-after ∙ rw none
+-- How many trees stand on a stack in arrays.
+pub holdable-few : (A : Automaton) (words sizes : List ℕ) (held : Held) → Holdable A (walkIn words sizes held)
+    → (held .height ≤ held .nodes) × (held .height ≤ 1024)
+unfolding walkIn
+holdable-few A words sizes held h = let tall = length-stack words sizes (held .height) in (rw tall at (h .few), rw tall at (h .waiting))
 
-      pub reading-next : (n : ℕ) → answer ≡ At n → Reading words′ n (i + 2)
-      unfolding Stacked _>>=_
-      reading-next n e =
-          let (next, finds, tall, represents) = rw e at s in
-          let low = push-length ranks (r .trees) next f finds in
-          record {
-            trees = next;
-            tall = tall;
-            low = omega (arith, low .0);
-            few = omega (arith, low .1, r .tall, r .few);
-            represents = represents;
-            left =
-                left-after
-                ∙ ap (λ (x : Read (List Tree)). x >>= (λ (next : List Tree). pushAll ranks next (numbers (drop (i + 2) b)))) finds;
-          }
+-- The nodes of a body, one after the other.
+module _ (A : Automaton) (b : List ℕ) where
+  pub walk-begins : (words sizes : List ℕ) → Walked A b words sizes (record { height = 0; nodes = 0; first = Nowhere })
+  unfolding walkIn stackIn start
+  walk-begins words sizes = record { holdable = start-holdable A; most = omega arith; left = refl }
+
+  module _ {words sizes : List ℕ} {held : Held} (w : Walked A b words sizes held) where
+    pub walked-few : (held .height ≤ held .nodes) × (held .height ≤ 1024)
+    walked-few = holdable-few A words sizes held (w .holdable)
+
+    pub walk-ends : length b / 2 ≤ held .nodes → steppedOf words sizes (On held) ≡ advanceAll A start (numbers b)
+    unfolding advanceAll steppedOf
+    walk-ends h = sym (w .left ∙ rw (numbers-end b (2 * held .nodes) (omega arith)))
+
+    module _ (h : held .nodes < length b / 2) (f : ℕ) (is : f ≡ number2 (drop (2 * held .nodes) b)) (words′ sizes′ : List ℕ)
+        (answer : Stepped) (s : steppedOf words′ sizes′ answer ≡ advance A (walkIn words sizes held) f) where
+      left-after : advanceAll A start (numbers b)
+          ≡ steppedOf words′ sizes′ answer >>= (λ (next : Walk). advanceAll A next (numbers (drop (2 * held .nodes + 2) b)))
+      unfolding advanceAll
+      left-after = w .left ∙ rw (numbers-step b (2 * held .nodes) (omega arith), ← is, s)
+
+      pub walk-refused : (nodes : ℕ) (cause : Refusal) → answer ≡ Refused cause → WalkedFrom A b words′ sizes′ nodes answer
+      unfolding WalkedFrom steppedOf _>>=_
+      walk-refused nodes cause e = rw e (sym (left-after ∙ rw e))
+
+      module _ (next : Held) (e : answer ≡ On next) where
+        advanced : advance A (walkIn words sizes held) f ≡ found (walkIn words′ sizes′ next)
+        unfolding steppedOf
+        advanced = sym s ∙ ap (steppedOf words′ sizes′) e
+
+        pub walk-counts : next .nodes ≡ held .nodes + 1
+        unfolding walkIn
+        walk-counts = advance-counts A (walkIn words sizes held) f advanced
+
+        pub walk-next : Walked A b words′ sizes′ next
+        unfolding steppedOf _>>=_
+        walk-next =
+            let place : 2 * held .nodes + 2 ≡ 2 * next .nodes = omega (arith, walk-counts) in
+            record {
+              holdable = advance-holdable A (walkIn words sizes held) f (w .holdable) advanced;
+              most = omega arith;
+              left = left-after ∙ rw (e, place);
+            }
+
+        -- The first node stays, unless it is a new one.
+        pub walk-stays : isNew (held .first) (next .first) ≡ false
+            → Walked A b words′ sizes′ (record { height = next .height; nodes = next .nodes; first = held .first })
+        unfolding walkIn
+        walk-stays old =
+            let (i, size, bad, is) = advance-notes A (walkIn words sizes held) f advanced in
+            subst (λ (first : First). Walked A b words′ sizes′ (record { height = next .height; nodes = next .nodes; first = first }))
+            (is ∙ noted-stays (held .first) i size bad (rw is at old)) walk-next
+
+  -- A part of the walk that is refused, or goes on.
+  module _ (words sizes : List ℕ) (nodes : ℕ) (answer : Stepped) (w : WalkedFrom A b words sizes nodes answer) where
+    pub part-refused : (cause : Refusal) → answer ≡ Refused cause → steppedOf words sizes (Refused cause) ≡ advanceAll A start (numbers b)
+    unfolding WalkedFrom steppedOf
+    part-refused cause e = rw e at w
+
+    pub part-walked : (held : Held) → answer ≡ On held → Walked A b words sizes held × (nodes < held .nodes)
+    unfolding WalkedFrom
+    part-walked held e = rw e at w

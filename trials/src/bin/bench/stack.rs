@@ -52,9 +52,16 @@ pub fn of_library(call: &Call, loan: &mut Loan) -> usize {
     needed(&mut || unsafe {
         match *call {
             Call::Judge { .. } => sys::fensullay_judge(input, input_length, numbers, count),
-            Call::Check { .. } => {
-                sys::fensullay_check(counts, counts_length, input, input_length, tree, tree_length)
-            }
+            Call::Check { .. } => sys::fensullay_check(
+                counts,
+                counts_length,
+                input,
+                input_length,
+                tree,
+                tree_length,
+                numbers,
+                count,
+            ),
             Call::Relate { .. } => {
                 sys::fensullay_relate(input, input_length, out, out_length, numbers, count)
             }

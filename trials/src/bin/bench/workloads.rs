@@ -126,7 +126,7 @@ impl Workload {
     pub fn checks(&self) -> impl Iterator<Item = Timed> {
         self.trees.iter().map(|tree| Timed {
             name: format!("check, {} nodes", thousands(tree.nodes)),
-            call: Call::Check { counts: vec![0; 3], tree: tree.bytes.clone() },
+            call: Call::Check { counts: vec![0; 3], tree: tree.bytes.clone(), numbers: 2 },
             nodes: Some(tree.nodes),
         })
     }

@@ -1,4 +1,4 @@
-//! Tables and trees, each with the answer that document 01 gives.
+//! Tables and trees, each with the answer that documents 01 and 02 give.
 
 use crate::layout::{
     BENCH, Rule, bench, record, refused_tables, table, tree, with_kind, with_length, words,
@@ -14,9 +14,18 @@ pub struct Case {
 }
 
 pub struct Expected {
-    /// Whether the tree is accepted, or the number of a refusal.
-    pub answer: Result<bool, u8>,
+    pub answer: Due,
     pub after: Counts,
+}
+
+/// The answer that is due.
+#[derive(Clone, Copy, Debug, PartialEq, Eq)]
+pub enum Due {
+    Accepted,
+    /// The subtree to look at, by its node and its size.
+    Rejected(usize, usize),
+    /// The number of the refusal.
+    Refused(u8),
 }
 
 /// How many trees were accepted, rejected and refused.
@@ -31,13 +40,19 @@ const F: u16 = 2;
 const H: u16 = 3;
 const G: u16 = 4;
 
+/// Symbols without a rule, of ranks 0, 1 and 2.
+const C: u16 = 5;
+const D: u16 = 6;
+const E: u16 = 7;
+
 const FULL: u32 = 4_294_967_295;
+
+/// Rules to one state for each tree over A, B, F, G and H.
+const EVERY: [Rule; 5] = [(A, 0, &[]), (B, 0, &[]), (F, 0, &[0, 0]), (G, 0, &[0]), (H, 0, &[0; 8])];
 
 /// A table that accepts each tree over A, B, F, G and H.
 fn every_tree() -> Vec<u8> {
-    let rules: [Rule; 5] =
-        [(A, 0, &[]), (B, 0, &[]), (F, 0, &[0, 0]), (G, 0, &[0]), (H, 0, &[0; 8])];
-    table(1, &[0, 0, 2, 8, 1], &[0], &rules)
+    table(1, &[0, 0, 2, 8, 1], &[0], &EVERY)
 }
 
 /// A table of a leaf, symbol 0, and a symbol of rank 1 that counts to three.
@@ -97,6 +112,8 @@ pub fn all() -> Vec<Case> {
     cases.runs();
     cases.finals();
     cases.edges();
+    cases.subtrees();
+    cases.large_subtrees();
     cases.counts();
     cases.random();
     cases.0
@@ -105,17 +122,11 @@ pub fn all() -> Vec<Case> {
 struct Cases(Vec<Case>);
 
 impl Cases {
-    fn add(
-        &mut self,
-        name: impl Into<String>,
-        answer: Result<bool, u8>,
-        table: &[u8],
-        tree: &[u8],
-    ) {
+    fn add(&mut self, name: impl Into<String>, answer: Due, table: &[u8], tree: &[u8]) {
         let after = match answer {
-            Ok(true) => [1, 0, 0],
-            Ok(false) => [0, 1, 0],
-            Err(_) => [0, 0, 1],
+            Due::Accepted => [1, 0, 0],
+            Due::Rejected(..) => [0, 1, 0],
+            Due::Refused(_) => [0, 0, 1],
         };
         self.0.push(Case {
             name: name.into(),
@@ -127,26 +138,38 @@ impl Cases {
     }
 
     fn accepted(&mut self, name: impl Into<String>, table: &[u8], symbols: &[u16]) {
-        self.add(name, Ok(true), table, &tree(symbols));
+        self.add(name, Due::Accepted, table, &tree(symbols));
     }
 
-    fn rejected(&mut self, name: impl Into<String>, table: &[u8], symbols: &[u16]) {
-        self.add(name, Ok(false), table, &tree(symbols));
+    /// A tree that is not accepted, with the node and the size of the subtree.
+    fn rejected(
+        &mut self,
+        name: impl Into<String>,
+        (node, size): (usize, usize),
+        table: &[u8],
+        symbols: &[u16],
+    ) {
+        self.add(name, Due::Rejected(node, size), table, &tree(symbols));
+    }
+
+    /// A tree that is not accepted, though each of its nodes has a state.
+    fn rejected_whole(&mut self, name: impl Into<String>, table: &[u8], symbols: &[u16]) {
+        self.rejected(name, (symbols.len() - 1, symbols.len()), table, symbols);
     }
 
     fn refused(&mut self, name: impl Into<String>, number: u8, table: &[u8], symbols: &[u16]) {
-        self.add(name, Err(number), table, &tree(symbols));
+        self.add(name, Due::Refused(number), table, &tree(symbols));
     }
 
     fn not_one(&mut self, name: impl Into<String>, tree: &[u8]) {
-        self.add(name, Err(8), &bench(), tree);
+        self.add(name, Due::Refused(8), &bench(), tree);
     }
 
     fn examples(&mut self) {
         let t = &bench();
         self.accepted("bench-f-b-a", t, &[B, A, F]);
-        self.rejected("bench-a", t, &[A]);
-        self.rejected("bench-f-of-f-a-a-and-a", t, &[A, A, F, A, F]);
+        self.rejected_whole("bench-a", t, &[A]);
+        self.rejected("bench-f-of-f-a-a-and-a", (4, 5), t, &[A, A, F, A, F]);
         self.refused("bench-symbol-2-alone", 10, t, &[F]);
         self.refused("bench-empty-body", 10, t, &[]);
         self.refused("bench-symbol-3-alone", 9, t, &[3]);
@@ -154,9 +177,9 @@ impl Cases {
         self.accepted("bench-f-a-a", t, &[A, A, F]);
         self.accepted("bench-f-a-b", t, &[A, B, F]);
         self.accepted("bench-f-b-b", t, &[B, B, F]);
-        self.rejected("bench-b", t, &[B]);
-        self.rejected("bench-f-of-a-and-f-a-a", t, &[A, A, A, F, F]);
-        self.rejected("bench-f-of-two-f", t, &[A, B, F, B, A, F, F]);
+        self.rejected_whole("bench-b", t, &[B]);
+        self.rejected("bench-f-of-a-and-f-a-a", (4, 5), t, &[A, A, A, F, F]);
+        self.rejected("bench-f-of-two-f", (6, 7), t, &[A, B, F, B, A, F, F]);
     }
 
     fn not_a_tree(&mut self) {
@@ -230,7 +253,7 @@ impl Cases {
         self.refused("no-symbols-and-symbol-0", 9, bare, &[0]);
         self.refused("no-symbols-and-symbol-65535", 9, bare, &[65_535]);
         self.refused("no-symbols-and-empty-body", 10, bare, &[]);
-        self.add("no-symbols-and-no-bytes", Err(8), bare, &[]);
+        self.add("no-symbols-and-no-bytes", Due::Refused(8), bare, &[]);
         let shortest = &table(0, &[], &[], &[]);
         self.refused("shortest-table-and-symbol-0", 9, shortest, &[0]);
         self.refused("shortest-table-and-empty-body", 10, shortest, &[]);
@@ -248,6 +271,8 @@ impl Cases {
         self.refused("a-tree-and-a-leaf", 10, t, &[B, A, F, A]);
         self.refused("a-leaf-and-a-tree", 10, t, &[A, B, A, F]);
         self.refused("a-hundred-leaves", 10, t, &[A; 100]);
+        self.refused("64-leaves", 10, t, &[A; 64]);
+        self.refused("65-leaves", 10, t, &[A; 65]);
         // 257 and 513 trees are left: one if they are counted in a byte.
         self.refused("257-leaves", 10, t, &[A; 257]);
         self.refused("513-leaves", 10, t, &[A; 513]);
@@ -351,40 +376,41 @@ impl Cases {
         ];
         for (number, table) in refused_tables() {
             for (what, tree) in &trees {
-                self.add(format!("table-refused-{number}-and-{what}"), Err(number), &table, tree);
+                let name = format!("table-refused-{number}-and-{what}");
+                self.add(name, Due::Refused(number), &table, tree);
             }
         }
-        self.add("a-tree-as-table", Err(2), &tree(&[B, A, F]), &tree(&[B, A, F]));
-        self.add("table-and-tree-exchanged", Err(2), &tree(&[B, A, F]), &bench());
+        self.add("a-tree-as-table", Due::Refused(2), &tree(&[B, A, F]), &tree(&[B, A, F]));
+        self.add("table-and-tree-exchanged", Due::Refused(2), &tree(&[B, A, F]), &bench());
     }
 
     fn order_of_children(&mut self) {
         let two = &table(3, &[0, 0, 2], &[2], &[(A, 0, &[]), (B, 1, &[]), (F, 2, &[0, 1])]);
         self.accepted("only-f-a-b", two, &[A, B, F]);
-        self.rejected("not-f-b-a", two, &[B, A, F]);
-        self.rejected("not-f-a-a", two, &[A, A, F]);
-        self.rejected("not-f-b-b", two, &[B, B, F]);
+        self.rejected("not-f-b-a", (2, 3), two, &[B, A, F]);
+        self.rejected("not-f-a-a", (2, 3), two, &[A, A, F]);
+        self.rejected("not-f-b-b", (2, 3), two, &[B, B, F]);
         let turned = &table(3, &[0, 0, 2], &[2], &[(A, 0, &[]), (B, 1, &[]), (F, 2, &[1, 0])]);
         self.accepted("only-f-b-a", turned, &[B, A, F]);
-        self.rejected("not-f-a-b", turned, &[A, B, F]);
+        self.rejected("not-f-a-b", (2, 3), turned, &[A, B, F]);
 
         let rules: [Rule; 4] = [(0, 0, &[]), (1, 1, &[]), (2, 2, &[]), (3, 3, &[0, 1, 2])];
         let three = &table(4, &[0, 0, 0, 3], &[3], &rules);
         self.accepted("children-0-1-2", three, &[0, 1, 2, 3]);
         for [x, y, z] in [[0, 2, 1], [1, 0, 2], [1, 2, 0], [2, 0, 1], [2, 1, 0]] {
-            self.rejected(format!("children-{x}-{y}-{z}"), three, &[x, y, z, 3]);
+            self.rejected(format!("children-{x}-{y}-{z}"), (3, 4), three, &[x, y, z, 3]);
         }
 
         let mut rules: Vec<Rule> = (0..8).map(|i| (i, i, &[][..])).collect();
         rules.push((8, 8, &[0, 1, 2, 3, 4, 5, 6, 7]));
         let eight = &table(9, &[0, 0, 0, 0, 0, 0, 0, 0, 8], &[8], &rules);
         self.accepted("eight-children-in-order", eight, &[0, 1, 2, 3, 4, 5, 6, 7, 8]);
-        self.rejected("eight-children-turned", eight, &[7, 6, 5, 4, 3, 2, 1, 0, 8]);
-        self.rejected("eight-children-one-place-on", eight, &[1, 2, 3, 4, 5, 6, 7, 0, 8]);
+        self.rejected("eight-children-turned", (8, 9), eight, &[7, 6, 5, 4, 3, 2, 1, 0, 8]);
+        self.rejected("eight-children-one-place-on", (8, 9), eight, &[1, 2, 3, 4, 5, 6, 7, 0, 8]);
         for place in 0..7 {
             let mut symbols = [0, 1, 2, 3, 4, 5, 6, 7, 8];
             symbols.swap(place, place + 1);
-            self.rejected(format!("eight-children-swapped-at-{place}"), eight, &symbols);
+            self.rejected(format!("eight-children-swapped-at-{place}"), (8, 9), eight, &symbols);
         }
 
         // Subtraction: only the order tells 2 - 1 from 1 - 2.
@@ -392,9 +418,9 @@ impl Cases {
             [(0, 1, &[]), (1, 2, &[]), (2, 1, &[2, 1]), (2, 0, &[1, 1]), (2, 0, &[2, 2])];
         let minus = &table(3, &[0, 0, 2], &[1], &rules);
         self.accepted("two-minus-one", minus, &[1, 0, 2]);
-        self.rejected("one-minus-two", minus, &[0, 1, 2]);
+        self.rejected("one-minus-two", (2, 3), minus, &[0, 1, 2]);
         self.accepted("two-minus-two-minus-one", minus, &[1, 1, 0, 2, 2]);
-        self.rejected("two-minus-two-then-minus-one", minus, &[1, 1, 2, 0, 2]);
+        self.rejected("two-minus-two-then-minus-one", (4, 5), minus, &[1, 1, 2, 0, 2]);
     }
 
     fn shapes(&mut self) {
@@ -404,15 +430,15 @@ impl Cases {
         let right = &table(3, &[0, 0, 2], &[1], &rules);
         let left = &table(3, &[0, 0, 2], &[2], &rules);
         self.accepted("right-leaning-by-right", right, &right_leaning(300));
-        self.rejected("right-leaning-by-left", left, &right_leaning(300));
+        self.rejected_whole("right-leaning-by-left", left, &right_leaning(300));
         self.accepted("left-leaning-by-left", left, &left_leaning(300));
-        self.rejected("left-leaning-by-right", right, &left_leaning(300));
+        self.rejected_whole("left-leaning-by-right", right, &left_leaning(300));
         self.accepted("two-leaves-lean-right", right, &right_leaning(2));
         self.accepted("two-leaves-lean-left", left, &left_leaning(2));
-        self.rejected("three-leaves-lean-right", left, &right_leaning(3));
-        self.rejected("three-leaves-lean-left", right, &left_leaning(3));
-        self.rejected("four-leaves-lean-no-way", right, &full(F, 2, A, 2));
-        self.rejected("one-leaf-leans-no-way", left, &[A]);
+        self.rejected_whole("three-leaves-lean-right", left, &right_leaning(3));
+        self.rejected_whole("three-leaves-lean-left", right, &left_leaning(3));
+        self.rejected("four-leaves-lean-no-way", (6, 7), right, &full(F, 2, A, 2));
+        self.rejected_whole("one-leaf-leans-no-way", left, &[A]);
 
         // The state of a full tree of rank 8 is its height; that of leaf 2 is 4.
         let rules: [Rule; 6] = [
@@ -427,16 +453,16 @@ impl Cases {
         let third = full(1, 8, 0, 3);
         assert_eq!(third.len(), 585);
         self.accepted("full-of-rank-8-and-height-3", heights, &third);
-        self.rejected("full-of-rank-8-and-height-2", heights, &full(1, 8, 0, 2));
-        self.rejected("full-of-rank-8-and-height-1", heights, &full(1, 8, 0, 1));
+        self.rejected_whole("full-of-rank-8-and-height-2", heights, &full(1, 8, 0, 2));
+        self.rejected_whole("full-of-rank-8-and-height-1", heights, &full(1, 8, 0, 1));
         let with_leaf = |place: usize| {
             let mut symbols = third.clone();
             assert_eq!(symbols[place], 0);
             symbols[place] = 2;
             symbols
         };
-        self.rejected("full-with-another-leaf-first", heights, &with_leaf(0));
-        self.rejected("full-with-another-leaf-in-between", heights, &with_leaf(301));
+        self.rejected("full-with-another-leaf-first", (8, 9), heights, &with_leaf(0));
+        self.rejected("full-with-another-leaf-in-between", (309, 9), heights, &with_leaf(301));
         self.accepted("full-with-another-leaf-eighth", heights, &with_leaf(7));
         self.accepted("full-with-another-leaf-at-last", heights, &with_leaf(581));
         self.refused("full-and-a-leaf", 10, heights, &[&third[..], &[0]].concat());
@@ -451,20 +477,22 @@ impl Cases {
         let right_leaning = [vec![0; 7 * 146 + 1], vec![1; 146]].concat();
         let left_leaning = [vec![0], [0, 0, 0, 0, 0, 0, 0, 1].repeat(146)].concat();
         self.accepted("rank-8-last-child-by-last", last, &right_leaning);
-        self.rejected("rank-8-last-child-by-first", first, &right_leaning);
+        self.rejected("rank-8-last-child-by-first", (1024, 17), first, &right_leaning);
         self.accepted("rank-8-first-child-by-first", first, &left_leaning);
-        self.rejected("rank-8-first-child-by-last", last, &left_leaning);
+        self.rejected("rank-8-first-child-by-last", (16, 17), last, &left_leaning);
 
-        for (nodes, state) in [(1, 0), (2, 1), (3, 2), (4, 0), (200, 1), (201, 2), (202, 0)] {
+        let lengths =
+            [(1, 0), (2, 1), (3, 2), (4, 0), (64, 0), (65, 1), (200, 1), (201, 2), (202, 0)];
+        for (nodes, state) in lengths {
             self.accepted(format!("chain-of-{nodes}"), &thirds(state), &chain(nodes));
-            let other = (state + 1) % 3;
-            self.rejected(format!("chain-of-{nodes}-elsewhere"), &thirds(other), &chain(nodes));
+            let (name, other) = (format!("chain-of-{nodes}-elsewhere"), thirds((state + 1) % 3));
+            self.rejected_whole(name, &other, &chain(nodes));
         }
 
         let constants = &table(2, &[0, 0, 0], &[1], &[(0, 0, &[]), (1, 1, &[])]);
-        self.rejected("rank-0-only-state-0", constants, &[0]);
+        self.rejected_whole("rank-0-only-state-0", constants, &[0]);
         self.accepted("rank-0-only-state-1", constants, &[1]);
-        self.rejected("rank-0-only-without-a-rule", constants, &[2]);
+        self.rejected("rank-0-only-without-a-rule", (0, 1), constants, &[2]);
         self.refused("rank-0-only-twice", 10, constants, &[1, 1]);
         self.refused("rank-0-only-unknown", 9, constants, &[3]);
     }
@@ -481,9 +509,9 @@ impl Cases {
             (1, 6, &[5]),
         ];
         let one_run = &table(7, &[0, 1], &[6], &rules);
-        self.rejected("one-run-too-low", one_run, &chain(2));
+        self.rejected_whole("one-run-too-low", one_run, &chain(2));
         self.accepted("one-run-of-three", one_run, &chain(3));
-        self.rejected("one-run-too-high", one_run, &chain(4));
+        self.rejected("one-run-too-high", (3, 4), one_run, &chain(4));
 
         // The third symbol from the top is 2.
         let rules: [Rule; 8] = [
@@ -498,13 +526,13 @@ impl Cases {
         ];
         let third = &table(4, &[0, 1, 1], &[3], &rules);
         self.accepted("third-from-top-2-1-1", third, &[0, 2, 1, 1]);
-        self.rejected("third-from-top-1-1-1", third, &[0, 1, 1, 1]);
+        self.rejected_whole("third-from-top-1-1-1", third, &[0, 1, 1, 1]);
         self.accepted("third-from-top-2-2-2", third, &[0, 2, 2, 2]);
-        self.rejected("third-from-top-1-2-2", third, &[0, 1, 2, 2]);
+        self.rejected_whole("third-from-top-1-2-2", third, &[0, 1, 2, 2]);
         self.accepted("third-from-top-1-2-2-1-2", third, &[0, 1, 2, 2, 1, 2]);
-        self.rejected("third-from-top-2-2-1-2-2", third, &[0, 2, 2, 1, 2, 2]);
-        self.rejected("third-from-top-2-2", third, &[0, 2, 2]);
-        self.rejected("third-from-top-none", third, &[0]);
+        self.rejected_whole("third-from-top-2-2-1-2-2", third, &[0, 2, 2, 1, 2, 2]);
+        self.rejected_whole("third-from-top-2-2", third, &[0, 2, 2]);
+        self.rejected_whole("third-from-top-none", third, &[0]);
 
         // All children must fit one rule.
         let rules: [Rule; 6] =
@@ -512,57 +540,58 @@ impl Cases {
         let both = &table(5, &[0, 0, 0, 0, 2], &[4], &rules);
         self.accepted("children-of-the-first-rule", both, &[0, 1, 4]);
         self.accepted("children-of-the-second-rule", both, &[2, 3, 4]);
-        self.rejected("children-of-rules-1-and-2", both, &[0, 3, 4]);
-        self.rejected("children-of-rules-2-and-1", both, &[2, 1, 4]);
+        self.rejected("children-of-rules-1-and-2", (2, 3), both, &[0, 3, 4]);
+        self.rejected("children-of-rules-2-and-1", (2, 3), both, &[2, 1, 4]);
 
         // Each leaf may be in either state; one choice for all has a run.
         let rules: [Rule; 3] = [(A, 0, &[]), (A, 1, &[]), (F, 1, &[0, 1])];
         let choices = &table(2, &[0, 0, 2], &[1], &rules);
         self.accepted("two-choices", choices, &right_leaning(2));
         self.accepted("many-choices-to-the-right", choices, &right_leaning(64));
-        self.rejected("many-choices-to-the-left", choices, &left_leaning(64));
+        self.rejected("many-choices-to-the-left", (4, 5), choices, &left_leaning(64));
 
         // Rules in any order, and one of them twice.
         let rules: [Rule; 5] =
             [(F, 2, &[0, 1]), (B, 1, &[]), (F, 2, &[0, 1]), (A, 0, &[]), (B, 1, &[])];
         let mixed = &table(3, &[0, 0, 2], &[2], &rules);
         self.accepted("rules-in-any-order", mixed, &[A, B, F]);
-        self.rejected("rules-in-any-order-turned", mixed, &[B, A, F]);
+        self.rejected("rules-in-any-order-turned", (2, 3), mixed, &[B, A, F]);
 
         let silent = &table(2, &[0, 1, 1], &[1], &[(0, 0, &[]), (1, 1, &[0])]);
         self.accepted("a-symbol-with-a-rule", silent, &[0, 1]);
-        self.rejected("a-symbol-without-rules", silent, &[0, 2]);
-        self.rejected("a-symbol-without-rules-below", silent, &[0, 2, 1]);
-        self.rejected("a-symbol-without-rules-above", silent, &[0, 1, 2]);
+        self.rejected("a-symbol-without-rules", (1, 2), silent, &[0, 2]);
+        self.rejected("a-symbol-without-rules-below", (1, 2), silent, &[0, 2, 1]);
+        self.rejected("a-symbol-without-rules-above", (2, 3), silent, &[0, 1, 2]);
         let back = &table(2, &[0, 1, 1], &[0, 1], &[(0, 0, &[]), (1, 1, &[0]), (2, 0, &[1])]);
         self.accepted("there-and-back", back, &[0, 1, 2]);
-        self.rejected("lost-on-the-way", back, &[0, 2, 1]);
+        self.rejected("lost-on-the-way", (1, 2), back, &[0, 2, 1]);
     }
 
     fn finals(&mut self) {
         let with_finals = |states: &[u16]| table(5, &[0, 0, 2], states, &BENCH);
         for (what, symbols) in [("a", vec![A]), ("f-b-a", vec![B, A, F])] {
-            self.rejected(format!("no-final-{what}"), &with_finals(&[]), &symbols);
-            self.rejected(format!("unreached-final-{what}"), &with_finals(&[4]), &symbols);
+            self.rejected_whole(format!("no-final-{what}"), &with_finals(&[]), &symbols);
+            self.rejected_whole(format!("unreached-final-{what}"), &with_finals(&[4]), &symbols);
             self.accepted(format!("all-final-{what}"), &with_finals(&[0, 1, 2, 3, 4]), &symbols);
         }
-        self.rejected("all-final-but-no-run", &with_finals(&[0, 1, 2, 3, 4]), &[A, A, F, A, F]);
+        let all = &with_finals(&[0, 1, 2, 3, 4]);
+        self.rejected("all-final-but-no-run", (4, 5), all, &[A, A, F, A, F]);
         self.accepted("final-0-a", &with_finals(&[0]), &[A]);
-        self.rejected("final-0-b", &with_finals(&[0]), &[B]);
+        self.rejected_whole("final-0-b", &with_finals(&[0]), &[B]);
         self.accepted("final-2-b", &with_finals(&[2]), &[B]);
         self.accepted("finals-1-and-4-a", &with_finals(&[1, 4]), &[A]);
-        self.rejected("finals-1-and-4-b", &with_finals(&[1, 4]), &[B]);
+        self.rejected_whole("finals-1-and-4-b", &with_finals(&[1, 4]), &[B]);
         self.accepted("finals-2-and-3-b", &with_finals(&[2, 3]), &[B]);
 
         let stateless = &table(0, &[0, 2], &[], &[]);
-        self.rejected("no-states-leaf", stateless, &[0]);
-        self.rejected("no-states-tree", stateless, &[0, 0, 1]);
+        self.rejected("no-states-leaf", (0, 1), stateless, &[0]);
+        self.rejected("no-states-tree", (0, 1), stateless, &[0, 0, 1]);
         self.refused("no-states-unknown-symbol", 9, stateless, &[2]);
         self.refused("no-states-too-few", 10, stateless, &[1]);
         self.refused("no-states-empty-body", 10, stateless, &[]);
         let ruleless = &table(2, &[0, 2], &[0, 1], &[]);
-        self.rejected("no-rules-leaf", ruleless, &[0]);
-        self.rejected("no-rules-tree", ruleless, &[0, 0, 1]);
+        self.rejected("no-rules-leaf", (0, 1), ruleless, &[0]);
+        self.rejected("no-rules-tree", (0, 1), ruleless, &[0, 0, 1]);
     }
 
     fn edges(&mut self) {
@@ -574,14 +603,17 @@ impl Cases {
         for (i, state) in states.into_iter().enumerate() {
             let edge = &table(256, &[0, 1], &[state], &rules);
             self.accepted(format!("state-{state}-at-its-height"), edge, &chain(i + 1));
-            self.rejected(format!("state-{state}-one-too-high"), edge, &chain(i + 2));
+            // The step more leads to a state that is not final, or at last to none.
+            let name = format!("state-{state}-one-too-high");
+            self.rejected(name, (i + 1, i + 2), edge, &chain(i + 2));
         }
         for target in [0, 1, 64, 65, 128, 192, 255] {
             for other in [0, 64, 128, 192, 255] {
                 let single =
                     |from: u16| table(256, &[0, 1], &[200], &[(0, target, &[]), (1, 200, &[from])]);
                 let name = format!("state-{other}-below-where-{target}-is");
-                self.add(name, Ok(target == other), &single(other), &tree(&[0, 1]));
+                let due = if target == other { Due::Accepted } else { Due::Rejected(1, 2) };
+                self.add(name, due, &single(other), &tree(&[0, 1]));
             }
         }
         let all: Vec<u16> = (0..256).collect();
@@ -592,7 +624,7 @@ impl Cases {
         let rules: [Rule; 2] = [(254, 0, &[]), (255, 1, &[0, 0])];
         let symbols = &table(2, &arity, &[1], &rules);
         self.accepted("256-symbols-and-255-on-top", symbols, &[254, 254, 255]);
-        self.rejected("256-symbols-and-another-leaf", symbols, &[254, 253, 255]);
+        self.rejected("256-symbols-and-another-leaf", (1, 1), symbols, &[254, 253, 255]);
         self.refused("256-symbols-and-256-on-top", 9, symbols, &[254, 254, 256]);
         self.refused("256-symbols-and-511-on-top", 9, symbols, &[254, 254, 511]);
         self.refused("256-symbols-and-255-alone", 10, symbols, &[255]);
@@ -608,11 +640,96 @@ impl Cases {
         self.accepted("1024-rules", counting, &sum);
     }
 
+    fn subtrees(&mut self) {
+        let t = &bench();
+        self.rejected("bench-three-f-to-the-left", (4, 5), t, &[A, A, F, A, F, B, F]);
+        self.rejected("bench-three-f-to-the-right", (5, 5), t, &[A, A, A, A, F, F, F]);
+        self.rejected("bench-f-of-f-a-a-twice", (6, 7), t, &[A, A, F, A, A, F, F]);
+        let both = [A, A, F, A, F, A, A, A, F, F, F];
+        self.rejected("bench-two-without-states", (4, 5), t, &both);
+        self.rejected("no-states-one-symbol", (0, 1), &table(0, &[0], &[], &[]), &[0]);
+
+        // No accepted tree needs state 1, which the reduced table is without.
+        let rules: [Rule; 3] = [(0, 0, &[]), (1, 1, &[]), (2, 1, &[1])];
+        self.rejected_whole("b-has-a-state", &table(2, &[0, 0, 1], &[0], &rules), &[1, 2]);
+        let reduced = table(1, &[0, 0, 1], &[0], &rules[..1]);
+        self.rejected("b-has-no-state-when-reduced", (0, 1), &reduced, &[1, 2]);
+
+        // The bench table with G, H, C, D and E, which have no rule there.
+        let wider = &table(5, &[0, 0, 2, 8, 1, 0, 1, 2], &[3], &BENCH);
+        self.rejected("c-alone", (0, 1), wider, &[C]);
+        self.rejected("c-first", (0, 1), wider, &[C, A, F]);
+        self.rejected("c-second", (1, 1), wider, &[A, C, F]);
+        self.rejected("c-twice", (0, 1), wider, &[C, C, F]);
+        self.rejected("c-inside", (3, 1), wider, &[A, A, F, C, F]);
+        self.rejected("c-deep-inside", (2, 1), wider, &[A, B, C, F, F, A, F]);
+        self.rejected("c-below-nodes-that-fit", (0, 1), wider, &[C, A, F, B, F]);
+        // The first in postfix order is not the smallest.
+        self.rejected("c-behind-a-larger-one", (4, 5), wider, &[A, A, F, A, F, C, F]);
+        self.rejected("c-before-a-larger-one", (0, 1), wider, &[C, A, A, F, A, F, F]);
+        self.rejected("g-on-top", (1, 2), wider, &[A, G]);
+        self.rejected("g-twice", (1, 2), wider, &[A, G, B, G, F]);
+        self.rejected("g-above-g", (1, 2), wider, &[A, G, G]);
+        self.rejected("g-above-f", (4, 4), wider, &[A, A, B, F, G, F]);
+        self.rejected("e-on-top", (4, 5), wider, &[A, B, A, F, E]);
+        self.rejected("h-on-top", (8, 9), wider, &[A, B, A, B, A, B, A, B, H]);
+        let inside = [B, A, A, A, A, A, A, A, A, A, F, H, F];
+        self.rejected("h-inside", (11, 11), wider, &inside);
+        self.rejected("h-above-c-first", (0, 1), wider, &[C, A, A, A, A, A, A, A, H]);
+        self.rejected("h-above-c-last", (7, 1), wider, &[A, A, A, A, A, A, A, C, H]);
+    }
+
+    fn large_subtrees(&mut self) {
+        let ranks = [0, 0, 2, 8, 1, 0, 1, 2];
+        let most = &table(1, &ranks, &[0], &EVERY);
+        for nodes in [63, 64, 65] {
+            let first = [vec![C], vec![G; nodes - 1]].concat();
+            self.rejected(format!("first-of-{nodes}"), (0, 1), most, &first);
+            let last = [vec![A], vec![G; nodes - 2], vec![D]].concat();
+            self.rejected(format!("last-of-{nodes}"), (nodes - 1, nodes), most, &last);
+        }
+        // 63 and 65 nodes, half of them waiting.
+        for leaves in [32, 33] {
+            let last_leaf = [vec![A; leaves - 1], vec![C], vec![F; leaves - 1]].concat();
+            self.rejected(format!("last-of-{leaves}-leaves"), (leaves - 1, 1), most, &last_leaf);
+            let first_node = [vec![A; leaves], vec![E], vec![F; leaves - 2]].concat();
+            self.rejected(format!("first-above-{leaves}-leaves"), (leaves, 3), most, &first_node);
+            let top = [vec![A; leaves], vec![F; leaves - 2], vec![E]].concat();
+            let whole = (2 * leaves - 2, 2 * leaves - 1);
+            self.rejected(format!("top-of-{leaves}-leaves"), whole, most, &top);
+        }
+
+        let first_leaf = [vec![C], vec![A; 1023], vec![F; 1023]].concat();
+        self.rejected("1024-waiting-first-leaf", (0, 1), most, &first_leaf);
+        let last_leaf = [vec![A; 1023], vec![C], vec![F; 1023]].concat();
+        self.rejected("1024-waiting-last-leaf", (1023, 1), most, &last_leaf);
+        let first_node = leaves(1024, &[vec![E], vec![F; 1022]].concat());
+        self.rejected("1024-waiting-first-node", (1024, 3), most, &first_node);
+        let top = leaves(1024, &[vec![F; 1022], vec![E]].concat());
+        self.rejected("1024-waiting-top", (2046, 2047), most, &top);
+        // 146 nodes of rank 8 leave two trees.
+        let top = leaves(1024, &[vec![H; 146], vec![E]].concat());
+        self.rejected("1024-waiting-top-above-h", (1170, 1171), most, &top);
+        let none_final = &table(1, &ranks, &[], &EVERY);
+        self.rejected_whole("1024-waiting-none-final", none_final, &right_leaning(1024));
+
+        let first = [vec![C], vec![G; 16_383]].concat();
+        self.rejected("first-of-16384", (0, 1), most, &first);
+        let last = [vec![A], vec![G; 16_382], vec![D]].concat();
+        self.rejected("last-of-16384", (16_383, 16_384), most, &last);
+        self.rejected_whole("16384-nodes-elsewhere", &thirds(1), &chain(16_384));
+        // A full tree of rank 8 and height 4 has 4,681 nodes.
+        let three = [full(H, 8, A, 4).repeat(3), vec![F, E]].concat();
+        self.rejected("top-of-three-full-trees", (14_044, 14_045), most, &three);
+        let second = [full(H, 8, A, 4), vec![D], full(H, 8, A, 4), vec![F]].concat();
+        self.rejected("above-the-first-full-tree", (4_681, 4_682), most, &second);
+    }
+
     fn counts(&mut self) {
-        let answers: [(&str, Result<bool, u8>, Vec<u8>); 3] = [
-            ("accepted", Ok(true), tree(&[B, A, F])),
-            ("rejected", Ok(false), tree(&[A])),
-            ("refused", Err(10), tree(&[F])),
+        let answers: [(&str, Due, Vec<u8>); 3] = [
+            ("accepted", Due::Accepted, tree(&[B, A, F])),
+            ("rejected", Due::Rejected(0, 1), tree(&[A])),
+            ("refused", Due::Refused(10), tree(&[F])),
         ];
         let rows: [(&str, Counts, [Counts; 3]); 7] = [
             ("1-2-3", [1, 2, 3], [[2, 2, 3], [1, 3, 3], [1, 2, 4]]),
@@ -653,7 +770,7 @@ impl Cases {
             {
                 self.0.push(Case {
                     name: format!("counts-{what}-table-refused-{number}"),
-                    expected: Some(Expected { answer: Err(number), after }),
+                    expected: Some(Expected { answer: Due::Refused(number), after }),
                     table: table.clone(),
                     tree: tree(&[B, A, F]),
                     before,

@@ -9,7 +9,7 @@ use mathlib.Core.Bool.{not}
 use lib.ListN.{length, getD, replicate, getD-replicate}
 use mir.Syntax.{w64}
 use mir.Val.{Fits}
-use Rattle.sets.specs.Set.{emptySet, sameSet, words}
+use Rattle.sets.specs.Set.{member, emptySet, sameSet, words}
 use Rattle.sets.specs.Inner.{statesIn}
 use Rattle.sets.specs.Inner.{Below}
 use Rattle.sets.proofs.StateSets.{states-below, states-low}
@@ -56,7 +56,8 @@ module _ (c : tie.After-below Inv-loop μ-loop) where
   set-low q h b = c .below .ensures q b ∙ rw (le-ltb q n h)
 
   states-are : statesIn 256 set ≡ states
-  states-are = states-below (begin c .args .states .words) set n small (c .below .ensures)
+  unfolding statesIn
+  states-are = states-below (member (begin c .args .states .words)) set n small (c .below .ensures)
 
   simulable : Simulable rules states
   simulable = begin c .pre .1 .0

@@ -3,9 +3,9 @@ use borrow.Author.Needs.{needs}
 use mathlib.Core.Path.{_∙_}
 use denote.Ref.{now}
 use Rattle.automaton.proofs.Held.{Held, decoded-held, decoded-writable}
-use Rattle.trees.specs.Answers.{acceptanceOf}
+use Rattle.trees.specs.Answers.{findingOf}
 use Rattle.simulation.proofs.checking.check_tree_in.Tie as tie
-use Rattle.simulation.proofs.Acceptance.{table-refused, held-index-room, held-acceptance}
+use Rattle.simulation.proofs.Acceptance.{table-refused, held-index-room, held-finding}
 use Rattle.simulation.proofs.checking.check_tree_in.Statement.{statement}
 
 abbrev decoded : tie.After-finals → tie.After-decode
@@ -15,7 +15,7 @@ abbrev lent : tie.After-finals → tie.After-shared-slice-known
 lent c = decoded c .before .before .before .before .before .before .before
 
 returns : tie.Need-returns
-unfolding acceptanceOf
+unfolding findingOf
 returns c = table-refused _ _ _ (decoded (c .before .before .before) .decode .ensures) (c .before .judged .given .1)
 
 held : (c : tie.After-known-told2)
@@ -34,7 +34,7 @@ accept-tree-requires c κs =
 returns-2 : tie.Need-returns-2
 returns-2 c =
     let a = c .before .before in
-    a .accept-tree .ensures ∙ held-acceptance (held (a .before .before .before .before)) _
+    a .accept-tree .ensures ∙ held-finding (held (a .before .before .before .before)) _
 
 pub check-tree-in-spec : {M : Type 1} → statement M
 check-tree-in-spec =

@@ -1,30 +1,46 @@
--- On one tree the answer is that of its set.
+-- On one tree the answer is that of its set; the subtree is what the walk holds.
 use borrow.Author.Needs.{needs}
-use borrow.Author.Tests.{not-true, not-false}
-use mathlib.Core.Path.{sym, ap, _∙_}
-use Rattle.records.specs.Read.{found}
-use Rattle.trees.specs.Answers.{acceptanceOf}
+use native.Mathlib.Omega.{arith}
+use mathlib.Core.Path.{sym, _∙_}
+use Rattle.trees.specs.Subtree.{pointed}
+use Rattle.trees.specs.Answers.{findingOf}
 use Rattle.trees.proofs.evaluation.accept_stack.Tie as tie
-use Rattle.trees.proofs.evaluation.Acceptance.{not-one-refused, one-accepted}
+use Rattle.trees.proofs.evaluation.Answering.{not-one-refused, one-answered}
 use Rattle.trees.proofs.evaluation.accept_stack.Statement.{statement}
 
 returns : tie.Need-returns
-unfolding acceptanceOf
-returns c = λ rules trees tall represents. sym (not-one-refused rules _ trees _ tall (c .if1 .taken))
+unfolding findingOf
+returns c = λ A sizes few finals holdable. not-one-refused A _ sizes _ (c .if1 .taken)
 
 returns-2 : tie.Need-returns-2
-unfolding acceptanceOf
-returns-2 c = λ rules trees tall represents.
-    sym
-    (one-accepted rules _ _ trees (tall ∙ c .before .before .if1 .left) represents
-    ∙ ap found (sym (c .before .has-final .ensures) ∙ not-true _ (c .if2 .taken)))
+unfolding findingOf
+returns-2 c = λ A sizes few finals holdable.
+    let h = c .before in
+    sym (one-answered A _ sizes _ _ few finals holdable (h .before .if1 .left) ∙ rw (sym (h .has-final .ensures) ∙ c .if2 .taken))
 
 returns-3 : tie.Need-returns-3
-unfolding acceptanceOf
-returns-3 c = λ rules trees tall represents.
-    sym
-    (one-accepted rules _ _ trees (tall ∙ c .before .before .if1 .left) represents
-    ∙ ap found (sym (c .before .has-final .ensures) ∙ not-false _ (c .if2 .left)))
+unfolding findingOf pointed
+returns-3 c = λ A sizes few finals holdable.
+    let f = c .before in
+    let e = f .before .before in
+    let h = e .before in
+    sym (one-answered A _ sizes _ _ few finals holdable (h .before .if1 .left)
+    ∙ rw (sym (h .has-final .ensures) ∙ e .if2 .left, f .first .given .1))
+
+returns-4 : tie.Need-returns-4
+unfolding findingOf pointed
+returns-4 c = λ A sizes few finals holdable.
+    let e = c .before .before in
+    let h = e .before in
+    sym (one-answered A _ sizes _ _ few finals holdable (h .before .if1 .left)
+    ∙ rw (sym (h .has-final .ensures) ∙ e .if2 .left, c .enum-told .given .1))
+
+sub-t12 : tie.Need-sub-t12
+sub-t12 c =
+    let one = c .before .before .before .before in
+    omega (arith, one .if1 .left, one .before .before .before .pre)
 
 pub accept-stack-spec : {M : Type 1} → statement M
-accept-stack-spec = tie.close (tie.spec returns (λ c κs. search needs) returns-2 returns-3)
+accept-stack-spec =
+    tie.close
+    (tie.spec returns (λ c κs. search needs) returns-2 (λ c. search needs) (λ c. search needs) sub-t12 returns-3 returns-4)
