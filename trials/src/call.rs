@@ -4,7 +4,7 @@ use checker::Automaton;
 
 use crate::layout::{RULE, record};
 use crate::library::RELATION_ROW;
-use crate::{Lent, Library};
+use crate::{CheckArrays, Lent, Library};
 
 /// A call on a table, and what is lent to it. `room` says by how many bytes the
 /// output is longer than the result, and `numbers` how long the array is. What a
@@ -75,7 +75,7 @@ impl Call {
         let Loan { input, tree, out, numbers, counts } = loan;
         match *self {
             Self::Judge { .. } => library.judge(input, numbers),
-            Self::Check { .. } => library.check(counts, input, tree, numbers),
+            Self::Check { .. } => library.check(input, tree, CheckArrays { counts, numbers }),
             Self::Relate { .. } => library.relate(input, out, numbers),
             Self::Compare { q, r, .. } => library.compare(input, q, r, numbers),
             Self::Reduce { .. } => library.reduce(input, out, numbers),

@@ -27,7 +27,7 @@ pub use call::{Call, Loan, Sizes};
 pub use case::Case;
 pub use draw::draw;
 pub use lent::{Fill, Lent};
-pub use library::{Library, NO, OK, ROOM, SHORT};
+pub use library::{CheckArrays, Library, NO, OK, ROOM, SHORT};
 pub use plain::Plain;
 pub use proved::Proved;
 pub use shrink::shrink;

@@ -18,18 +18,18 @@ pub const COMPARE_NUMBERS: usize = 1;
 pub const REDUCE_NUMBERS: usize = 6;
 pub const REPORT_NUMBERS: usize = 1;
 
+/// The arrays that a check may write.
+pub struct CheckArrays<'a> {
+    pub counts: &'a mut Lent<u32>,
+    pub numbers: &'a mut Lent<usize>,
+}
+
 /// The calls of `fensullay.h`. All memory is lent so that it could be written:
 /// what a call does to memory that it must leave is to be seen.
 pub trait Library {
     fn judge(&self, table: &mut Lent<u8>, numbers: &mut Lent<usize>) -> u32;
 
-    fn check(
-        &self,
-        counts: &mut Lent<u32>,
-        table: &mut Lent<u8>,
-        tree: &mut Lent<u8>,
-        numbers: &mut Lent<usize>,
-    ) -> u32;
+    fn check(&self, table: &mut Lent<u8>, tree: &mut Lent<u8>, arrays: CheckArrays<'_>) -> u32;
 
     fn relate(&self, table: &mut Lent<u8>, out: &mut Lent<u8>, numbers: &mut Lent<usize>) -> u32;
 

@@ -1,7 +1,7 @@
 use checker::{Answer, Automaton, Counts, Pair, Reduced, Refusal, Simulation, Subtree};
 
 use crate::library::{NO, OK, SHORT, answer, number};
-use crate::{Lent, Library};
+use crate::{CheckArrays, Lent, Library};
 
 /// The checker, behind the same calls.
 #[derive(Clone, Copy, Debug)]
@@ -15,13 +15,8 @@ impl Library for Plain {
         })
     }
 
-    fn check(
-        &self,
-        counts: &mut Lent<u32>,
-        table: &mut Lent<u8>,
-        tree: &mut Lent<u8>,
-        numbers: &mut Lent<usize>,
-    ) -> u32 {
+    fn check(&self, table: &mut Lent<u8>, tree: &mut Lent<u8>, arrays: CheckArrays<'_>) -> u32 {
+        let CheckArrays { counts, numbers } = arrays;
         let Some(counts) = counts.content_mut().first_chunk_mut() else { return SHORT };
         let Some(place) = numbers.content_mut().first_chunk_mut() else { return SHORT };
         let [accepted, rejected, refused] = *counts;

@@ -1,6 +1,6 @@
 use fensullay::sys;
 
-use crate::{Lent, Library};
+use crate::{CheckArrays, Lent, Library};
 
 /// The static library.
 #[derive(Clone, Copy, Debug)]
@@ -15,13 +15,8 @@ impl Library for Proved {
         }
     }
 
-    fn check(
-        &self,
-        counts: &mut Lent<u32>,
-        table: &mut Lent<u8>,
-        tree: &mut Lent<u8>,
-        numbers: &mut Lent<usize>,
-    ) -> u32 {
+    fn check(&self, table: &mut Lent<u8>, tree: &mut Lent<u8>, arrays: CheckArrays<'_>) -> u32 {
+        let CheckArrays { counts, numbers } = arrays;
         unsafe {
             sys::fensullay_check(
                 counts.start(),

@@ -67,7 +67,7 @@ subtreeAfter (found accepted) numbers = numbers
 subtreeAfter (found (rejected i size)) numbers = i ∷ size ∷ drop 2 numbers
 subtreeAfter (refused cause) numbers = numbers
 
--- Both arrays have to be long enough before anything is counted.
+-- Both arrays have to be long enough before anything is counted. A refusal is one of the answers that are found, so that it is counted.
 unfoldable pub checking : List ℕ → List ℕ → List ℕ → List ℕ → Exported
 checking counts table tree numbers =
     cond (leb 2 (length numbers))

@@ -204,7 +204,7 @@ shortG =
     ∷ []
 
 -- The subtree that a check names, from bytes (document 02: the "piece"). Symbols in postfix order.
-pub record Pieces : Type 0 where
+pub record NamedSubtrees : Type 0 where
   -- f(b,a) is accepted.
   pub accepted-none : finding tableT (8 ∷ 0 ∷ 0 ∷ 0 ∷ 16 ∷ 0 ∷ 1 ∷ 0 ∷ 0 ∷ 0 ∷ 2 ∷ 0 ∷ []) ≡ found accepted
   -- a: its node has states, and none is final. The whole tree.
@@ -230,7 +230,7 @@ pub record Pieces : Type 0 where
   pub before : finding tableG (6 ∷ 0 ∷ 0 ∷ 0 ∷ 16 ∷ 0 ∷ 1 ∷ 0 ∷ 2 ∷ 0 ∷ []) ≡ found (rejected 1 2)
   pub afterwards : finding shortG (6 ∷ 0 ∷ 0 ∷ 0 ∷ 16 ∷ 0 ∷ 1 ∷ 0 ∷ 2 ∷ 0 ∷ []) ≡ found (rejected 0 1)
 
-pub pieces : Pieces
+pub named-subtrees : NamedSubtrees
 unfolding reduce reductionRounds shortened numbered position restricted kept needed pruned dominated dominatedBy quotient firsts sameRule
     sameStates renamed representative firstOf equivalent roundsIn below trimmed namesOnly productive buildable closure foundIn among
     relation relationAt rounds settle allPairs refine keep survives matched matchedBy paired related any from
@@ -238,7 +238,7 @@ unfolding reduce reductionRounds shortened numbered position restricted kept nee
     finding findingIn pointed firstBad hasState subtrees postfix accepts belongs judgeTree isTreeRecord pushAll push rankOn single treesIn
     judge judgeFromRanks judgeFromFinals judgeRules judgeRecord judgeSize judgeRanks judgeFinals sizeIn judgeRule ruleIn due opened isWhole endOf bodyOf number2 number4 numbers
     all rising _>>=_ _>>_ check
-pieces = record {
+named-subtrees = record {
   accepted-none = refl;
   leaf = refl;
   top = refl;

@@ -12,7 +12,7 @@ mod table;
 use checker::{Refusal, Subtree};
 
 use crate::library::{NO, OK, SHORT, answer, number};
-use crate::{Lent, Library};
+use crate::{CheckArrays, Lent, Library};
 use groups::ByTarget;
 use reduction::Reduction;
 use report::report;
@@ -32,13 +32,8 @@ impl Library for Swift {
         })
     }
 
-    fn check(
-        &self,
-        counts: &mut Lent<u32>,
-        table: &mut Lent<u8>,
-        tree: &mut Lent<u8>,
-        numbers: &mut Lent<usize>,
-    ) -> u32 {
+    fn check(&self, table: &mut Lent<u8>, tree: &mut Lent<u8>, arrays: CheckArrays<'_>) -> u32 {
+        let CheckArrays { counts, numbers } = arrays;
         let Some([accepted, rejected, refused]) = counts.content_mut().first_chunk_mut() else {
             return SHORT;
         };

@@ -3,7 +3,7 @@
 use std::cell::RefCell;
 
 use checker::{Automaton, BySymbol, MAX_NODES, Rule, Simulation, StateSet, Subtree, Tree};
-use trials::{Lent, Library, NO, OK, Plain, ROOM, SHORT, layout};
+use trials::{CheckArrays, Lent, Library, NO, OK, Plain, ROOM, SHORT, layout};
 
 #[derive(Clone, Copy, Debug, PartialEq, Eq)]
 pub enum Fault {
@@ -104,15 +104,10 @@ impl Library for Faulty {
         }
     }
 
-    fn check(
-        &self,
-        counts: &mut Lent<u32>,
-        table: &mut Lent<u8>,
-        tree: &mut Lent<u8>,
-        numbers: &mut Lent<usize>,
-    ) -> u32 {
+    fn check(&self, table: &mut Lent<u8>, tree: &mut Lent<u8>, arrays: CheckArrays<'_>) -> u32 {
+        let CheckArrays { counts, numbers } = arrays;
         let before = counts.content().to_vec();
-        let answer = Plain.check(counts, table, tree, numbers);
+        let answer = Plain.check(table, tree, CheckArrays { counts, numbers });
         match (self.fault, answer) {
             (Fault::AcceptedTwice, OK) => change(counts, 0, |count| count.saturating_add(1)),
             (Fault::CountWraps, OK) if before[0] == u32::MAX => change(counts, 0, |_| 0),
@@ -129,7 +124,8 @@ impl Library for Faulty {
             (Fault::WholeTree, NO) => name(numbers, table, tree, |_, _| None),
             (Fault::SubtreeWithoutFinal, NO) => name(numbers, table, tree, without_final),
             (Fault::SubtreeOfReduced, NO) => {
-                Plain.check(&mut Lent::filled(3, 0), &mut reduced(table), tree, numbers);
+                let counts = &mut Lent::filled(3, 0);
+                Plain.check(&mut reduced(table), tree, CheckArrays { counts, numbers });
             }
             (Fault::WholeTreeOfReduced, NO) if self.wrote(table) => {
                 name(numbers, table, tree, |_, _| None);
@@ -138,7 +134,8 @@ impl Library for Faulty {
             (Fault::SubtreeOfRefused, 8..=11) => change(numbers, 0, |_| 0),
             (Fault::NumberBehindSubtree, NO) => change(numbers, 2, |number| number + 1),
             (Fault::CountedWhenShort, SHORT) if before.len() >= 3 => {
-                Plain.check(counts, table, tree, &mut Lent::filled(2, 0));
+                let numbers = &mut Lent::filled(2, 0);
+                Plain.check(table, tree, CheckArrays { counts, numbers });
             }
             (Fault::SubtreeWhenShort, SHORT) if before.len() < 3 => change(numbers, 0, |_| 0),
             _ => {}
