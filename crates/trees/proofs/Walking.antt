@@ -1,12 +1,12 @@
 -- The walk agrees with the trees: folding `advance` over some symbols and closing gives what reading them as trees finds. The walk of a stack of
 -- trees is a function of them, with which one node commutes. And what a walk can hold, node by node. From `rankOn` in Postfix and the laws of
 -- subtrees; for evaluation.
-use Prim.Native.Nat.{ℕ, zero, suc, _+_, _-_, _<_}
+use Prim.Native.Nat.{ℕ, suc, _+_, _<_}
 use native.Mathlib.Nat.{add-zero, zero-add, suc-add, add-suc}
 use native.Mathlib.Numerals.{add-one}
 use native.Mathlib.Omega.{arith}
-use mathlib.Core.Path.{_≡_, refl, sym, ap, _∙_}
-use mathlib.Core.List.{List, [], _∷_, _++_, map, reverse, reverseAux}
+use mathlib.Core.Path.{_≡_, refl, sym, ap}
+use mathlib.Core.List.{List, [], _∷_, _++_, map, reverse}
 use mathlib.Core.Bool.{Bool, true, false, cond, not, _&&_, _||_}
 use lib.ListN.{length, take, drop, length-append, length-drop, length-map}
 use lib.Dec.{eqb}
@@ -146,33 +146,18 @@ module _ (A : Automaton) (wf : WellFormed A) where
       go (refused cause) = refl
 
 -- What can be held.
-pub sizes-parts : (r : ℕ) (ws : List Waiting) → sizesOf (take r ws) + sizesOf (drop r ws) ≡ sizesOf ws
-unfolding sizesOf
-sizes-parts zero ws = zero-add (sizesOf ws)
-sizes-parts (suc r) [] = refl
-sizes-parts (suc r) (w ∷ ws) = omega (arith, sizes-parts r ws)
-
-pub sizes-reverse : (ws : List Waiting) → sizesOf (reverse ws) ≡ sizesOf ws
-unfolding sizesOf
-sizes-reverse ws = go ws [] ∙ add-zero (sizesOf ws)
-  where
-    go : (ws vs : List Waiting) → sizesOf (reverseAux ws vs) ≡ sizesOf ws + sizesOf vs
-    go [] vs = sym (zero-add (sizesOf vs))
-    go (w ∷ ws) vs = go ws (w ∷ vs) ∙ omega arith
-
 module _ (A : Automaton) where
   pub start-holdable : Holdable A start
-  unfolding start sizesOf
-  start-holdable = record { states = none; sizes = refl; few = omega arith; waiting = omega arith }
+  unfolding start
+  start-holdable = record { states = none; few = omega arith; waiting = omega arith }
 
   pub advance-holdable : (w : Walk) (f : ℕ) {next : Walk} → Holdable A w → advance A w f ≡ found next → Holdable A next
-  unfolding advance onto joined sizesOf
+  unfolding advance onto joined
   advance-holdable w f h e =
       let (r, passed, is) = bind-found (rankOn (A .ranks) (length (w .stack)) f) _ e in
       let p = ranked (A .ranks) (length (w .stack)) f passed in
       rw (← found-same is) record {
         states = also {x = joined A f (reverse (take r (w .stack)))} (member-all _ (λ q m. omega (arith, member-from (A .states) 0 q (keep-out _ (from 0 (A .states)) m .0)))) (all-drop r (w .stack) (h .states));
-        sizes = omega (arith, sizes-parts r (w .stack), sizes-reverse (take r (w .stack)), h .sizes);
         few = omega (arith, length-drop r (w .stack), h .few);
         waiting = omega (arith, length-drop r (w .stack), p .few);
       }
@@ -182,13 +167,6 @@ module _ (A : Automaton) where
   advance-counts w f e =
       let (r, passed, is) = bind-found (rankOn (A .ranks) (length (w .stack)) f) _ e in
       rw (← found-same is) (sym (add-one (w .nodes)))
-
-  pub advance-notes : (w : Walk) (f : ℕ) {next : Walk} → advance A w f ≡ found next
-      → (i : ℕ) × (size : ℕ) × (bad : Bool) × (next .first ≡ noted (w .first) i size bad)
-  unfolding advance onto
-  advance-notes w f e =
-      let (r, passed, is) = bind-found (rankOn (A .ranks) (length (w .stack)) f) _ e in
-      (_, _, _, ap (λ (v : Walk). v .first) (sym (found-same is)))
 
   pub walked-holdable : (w : Walk) (fs : List ℕ) {last : Walk} → Holdable A w → advanceAll A w fs ≡ found last → Holdable A last
   unfolding advanceAll

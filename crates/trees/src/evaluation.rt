@@ -1,11 +1,12 @@
 // A tree, in postfix order, against a decoded table, in one walk. The stack holds, for each finished tree, the set of the states that it belongs to,
-// and how many nodes it has. From the top: `accept_tree` takes the record apart, `accept_nodes` picks a stack for the nodes in it, `evaluate` and `walk`
-// go through them, one `step` for each, and `accept_stack` answers for what they leave.
-ghost use Prim.Native.Nat.{ℕ, _+_, _*_, _/_, _≤_, _<_};
+// and its start: how many nodes stand before it. A tree ends where the one above it starts, and the topmost one after the last node, so that its size is
+// a difference. From the top: `accept_tree` takes the record apart, `accept_nodes` picks a stack for the nodes in it, `evaluate` goes through them, one
+// `step` for each, and `accept_stack` answers for what they leave.
+ghost use Prim.Native.Nat.{ℕ, _+_, _-_, _*_, _/_, _≤_, _<_};
 ghost use mathlib.Core.Path.{_≡_};
 ghost use mathlib.Core.Bool.{cond};
 ghost use mathlib.Core.List.{List, List·Memᴰ};
-ghost use lib.ListN.{length, take, drop};
+ghost use lib.ListN.{length, drop, set};
 ghost use lib.Dec.{eqb};
 ghost use Rattle.lists.specs.Lists.{from, any};
 ghost use Rattle.sets.specs.Set.{member, emptySet, sameSet, withState};
@@ -19,11 +20,10 @@ ghost use Rattle.automaton.specs.Row.{ruleAt, Row, Rows};
 ghost use Rattle.automaton.specs.Decoded.{automatonIn};
 ghost use Rattle.trees.specs.Postfix.{isTreeRecord};
 ghost use Rattle.trees.specs.Walk as walk;
-ghost use Rattle.trees.specs.Walk.{start, sizesOf, advance, advanceAll, closing};
+ghost use Rattle.trees.specs.Walk.{advance, advanceAll, closing};
 ghost use Rattle.trees.specs.Answers.{findingOf};
-ghost use Rattle.trees.specs.Inner.{Evaluable, StackRoom, inOrder, ruleGives, gathered, sum, stackIn, walkIn, steppedOf, Holdable};
-ghost use Rattle.trees.specs.Inner.{isSomewhere, isNew, Walked, WalkedFrom};
-ghost use Rattle.trees.specs.Inner.{nodesFinding, treeFinding};
+ghost use Rattle.trees.specs.Inner.{Evaluable, StackRoom, inOrder, ruleGives, gathered, startOf, Consecutive, LeavesConsecutive};
+ghost use Rattle.trees.specs.Inner.{walkIn, steppedOf, isSomewhere, Holdable, nodesFinding, treeFinding};
 use automaton::Size;
 use automaton::children_of_rank;
 use automaton::target_of;
@@ -74,19 +74,20 @@ fn bit_at(sets: &[u64], e: usize, q: u8) -> u64
     (sets[4 * e + i / 64] >> (i % 64)) % 2
 }
 
-// 1 if the children are in the sets, one each and in order, and 0 if not. One or two children, the most frequent cases, go without a loop.
+// 1 if the children are in the sets, one each and in order, and 0 if not. At most two children, the most frequent cases, go without a loop.
 fn fits(sets: &[u64], children: &[u8]) -> u64
     requires { ⌜ 4 * length (now children) ≤ length (now sets) ⌝ }
     ensures { λ r. ⌜ r ≡ cond (inOrder (now (sets .entry)) (now (children .entry))) 1 0 ⌝ }
 {
+    if children.len() == 0 {
+        return 1;
+    }
+    let first = bit_at(sets, 0, children[0]);
     if children.len() == 1 {
-        return bit_at(sets, 0, children[0]);
+        return first;
     }
-    if children.len() == 2 {
-        return bit_at(sets, 0, children[0]) & bit_at(sets, 1, children[1]);
-    }
-    let mut bit: u64 = 1;
-    let mut j: usize = 0;
+    let mut bit = first & bit_at(sets, 1, children[1]);
+    let mut j: usize = 2;
     while j < children.len() {
         bit = bit & bit_at(sets, j, children[j]);
         j += 1;
@@ -143,16 +144,18 @@ fn add_if(spread: &mut [u64], q: u8, bit: u64)
     spread[w] = spread[w] | bit << (q % 64);
 }
 
-// The targets of those rules, by their numbers and each with `rank` children, whose children are in the sets, one each and in order. Where one
-// of that many sets is empty, no rule is looked at.
-fn targets(rows: &[u8], numbers: &[u16], sets: &[u64], rank: usize) -> StateSet
+// The targets of those rules, by their numbers and each with `rank` children, whose children are in the sets, one each and in order. With
+// `test_empty` no rule is looked at where one of that many sets is empty; the targets are the same without.
+fn targets(rows: &[u8], numbers: &[u16], sets: &[u64], rank: usize, test_empty: bool) -> StateSet
     requires { ⌜ 4 * rank ≤ length (now sets) ⌝ }
     requires { ⌜ ((i : ℕ) → List·Memᴰ i (now numbers) → Row (now rows) i × (rank ≡ length (ruleAt (now rows) i .children))) ⌝ }
     ensures { λ r. ⌜ Has (r .words)
         (λ (q : ℕ). any (ruleGives (now (rows .entry)) (now (sets .entry)) q) (now (numbers .entry))) ⌝ }
 {
-    if has_empty(sets, rank) {
-        return StateSet::empty();
+    if test_empty {
+        if has_empty(sets, rank) {
+            return StateSet::empty();
+        }
     }
     let mut spread: [u64; 8] = [0; 8];
     let mut j: usize = 0;
@@ -167,27 +170,15 @@ fn targets(rows: &[u8], numbers: &[u16], sets: &[u64], rank: usize) -> StateSet
     }
 }
 
-// How many nodes a tree has whose top node's children have the first `count` sizes. At most two children go without a loop.
-fn tree_size(sizes: &[u16], count: usize) -> usize
-    requires { ⌜ (count ≤ length (now sizes)) × (sum (take count (now sizes)) < 65535) ⌝ }
-    ensures { λ r. ⌜ r ≡ 1 + sum (take count (now (sizes .entry))) ⌝ }
+// Puts the start of a node's tree at place e: the node's own number, if it has no children. Otherwise it is the start of its first child, which
+// stands there already.
+fn put_start(starts: &mut [u16], e: usize, rank: usize, node: usize)
+    requires { ⌜ (e < length (now starts)) × (node < 16384) ⌝ }
+    ensures { λ _. ⌜ now (starts .exit) ≡ set (now (starts .entry)) e (startOf (now (starts .entry)) e rank node) ⌝ }
 {
-    if count == 0 {
-        return 1;
+    if rank == 0 {
+        starts[e] = node as u16;
     }
-    if count == 1 {
-        return 1 + sizes[0] as usize;
-    }
-    if count == 2 {
-        return 1 + sizes[0] as usize + sizes[1] as usize;
-    }
-    let mut size: usize = 1;
-    let mut j: usize = 0;
-    while j < count {
-        size += sizes[j] as usize;
-        j += 1;
-    }
-    size
 }
 
 // Whether a set has no state.
@@ -198,15 +189,19 @@ fn is_empty(set: StateSet) -> bool
     w[0] | w[1] | w[2] | w[3] == 0
 }
 
-// The first node whose tree belongs to no state, after one more, whose tree has this size and belongs to these states.
-fn noted(first: First, node: usize, size: usize, states: StateSet) -> First
-    ensures { λ r. ⌜ r ≡ walk.noted first node size (sameSet (states .words) emptySet) ⌝ }
+// The first node whose tree belongs to no state, after one more, whose tree has this start and belongs to these states.
+fn noted(first: First, node: usize, start: usize, states: StateSet) -> First
+    requires { ⌜ (start ≤ node) × (node < 16384) ⌝ }
+    ensures { λ r. ⌜ r ≡ walk.noted first node (node + 1 - start) (sameSet (states .words) emptySet) ⌝ }
 {
     match first {
         First::At { node: i, size: s } => First::At { node: i, size: s },
         First::Nowhere => {
             if is_empty(states) {
-                First::At { node, size }
+                First::At {
+                    node,
+                    size: node + 1 - start,
+                }
             } else {
                 First::Nowhere
             }
@@ -224,32 +219,24 @@ fn is_somewhere(first: First) -> bool
     }
 }
 
-// Whether there is one now and was none before.
-fn is_new(before: First, first: First) -> bool
-    ensures { λ r. ⌜ r ≡ isNew before first ⌝ }
-{
-    match before {
-        First::At { .. } => false,
-        First::Nowhere => is_somewhere(first),
-    }
-}
-
-// One node: its children's sets and sizes on the stack make way for its own.
+// One node: its tree takes the place of its children's on the stack. In a walk no set there is empty before the first tree without a state, so that sets
+// are tested only from then on.
 fn step(
     ranks: &[u8],
     rows: &[u8],
     index: &[u16],
     symbol: usize,
     stack: &mut [u64],
-    sizes: &mut [u16],
+    starts: &mut [u16],
     held: Held,
 ) -> Stepped
     requires { ⌜ ((A : Automaton) × Evaluable A (now ranks) (now rows) (now index)) ⌝ }
-    requires { ⌜ (held .height ≤ 1024) × StackRoom (held .height + 1) (now stack) (now sizes) ⌝ }
-    requires { ⌜ (held .nodes < 16384) × (sizesOf (stackIn (now stack) (now sizes) (held .height)) ≡ held .nodes) ⌝ }
+    requires { ⌜ (held .height ≤ 1024) × StackRoom (held .height + 1) (now stack) (now starts) ⌝ }
+    requires { ⌜ (held .nodes < 16384) × Consecutive (now starts) (held .height) (held .nodes) ⌝ }
     ensures { λ r. ⌜ ((A : Automaton) → Evaluable A (now (ranks .entry)) (now (rows .entry)) (now (index .entry))
-        → steppedOf (now (stack .exit)) (now (sizes .exit)) r
-        ≡ advance A (walkIn (now (stack .entry)) (now (sizes .entry)) held) symbol) ⌝ }
+        → steppedOf (now (stack .exit)) (now (starts .exit)) r
+        ≡ advance A (walkIn (now (stack .entry)) (now (starts .entry)) held) symbol) ⌝ }
+    ensures { λ r. ⌜ LeavesConsecutive (now (starts .exit)) r ⌝ }
 {
     if symbol >= ranks.len() {
         return Stepped::Refused(Refusal::UnknownSymbol);
@@ -263,16 +250,17 @@ fn step(
     if e >= 1024 {
         return Stepped::Refused(Refusal::TreeAboveLimit);
     }
-    let set = targets(rows, rules_of(index, symbol), &stack[4 * e..], rank);
-    let size = tree_size(&sizes[e..], rank);
-    put_entry(stack, e, set);
-    sizes[e] = size as u16;
     let first = held.first;
     let nodes = held.nodes;
+    let numbers = rules_of(index, symbol);
+    let set = targets(rows, numbers, &stack[4 * e..], rank, is_somewhere(first));
+    put_entry(stack, e, set);
+    put_start(starts, e, rank, nodes);
+    let start = starts[e] as usize;
     Stepped::On(Held {
         height: e + 1,
         nodes: nodes + 1,
-        first: noted(first, nodes, size, set),
+        first: noted(first, nodes, start, set),
     })
 }
 
@@ -284,51 +272,6 @@ fn symbol_at(b: &[u8], at: usize) -> usize
     b[at] as usize + 256 * (b[at + 1] as usize)
 }
 
-// The nodes of a tree's body from the next one on: to the end, or to the first whose tree belongs to no state where there was none before. So the
-// loop leaves `first` as it is.
-fn walk(
-    ranks: &[u8],
-    rows: &[u8],
-    index: &[u16],
-    b: &[u8],
-    stack: &mut [u64],
-    sizes: &mut [u16],
-    held: Held,
-) -> Stepped
-    requires { ⌜ ((A : Automaton) × Evaluable A (now ranks) (now rows) (now index) × Walked A (now b) (now stack) (now sizes) held) ⌝ }
-    requires { ⌜ (length (now b) / 2 ≤ 16384) × StackRoom (length (now b) / 2) (now stack) (now sizes) × (held .nodes < length (now b) / 2) ⌝ }
-    ensures { λ r. ⌜ ((A : Automaton) → Evaluable A (now (ranks .entry)) (now (rows .entry)) (now (index .entry))
-        → Walked A (now (b .entry)) (now (stack .entry)) (now (sizes .entry)) held
-        → WalkedFrom A (now (b .entry)) (now (stack .exit)) (now (sizes .exit)) (held .nodes) r) ⌝ }
-{
-    let first = held.first;
-    let mut height = held.height;
-    let mut nodes = held.nodes;
-    while nodes < b.len() / 2 {
-        let symbol = symbol_at(b, 2 * nodes);
-        let held = Held {
-            height,
-            nodes,
-            first,
-        };
-        let stepped = step(ranks, rows, index, symbol, stack, sizes, held);
-        let Stepped::On(next) = stepped else {
-            return stepped;
-        };
-        let noted = next.first;
-        if is_new(first, noted) {
-            return stepped;
-        }
-        height = next.height;
-        nodes = next.nodes;
-    }
-    Stepped::On(Held {
-        height,
-        nodes,
-        first,
-    })
-}
-
 // All nodes of a tree's body, one after the other, on an empty stack.
 fn evaluate(
     ranks: &[u8],
@@ -336,12 +279,12 @@ fn evaluate(
     index: &[u16],
     b: &[u8],
     stack: &mut [u64],
-    sizes: &mut [u16],
+    starts: &mut [u16],
 ) -> Stepped
     requires { ⌜ ((A : Automaton) × Evaluable A (now ranks) (now rows) (now index)) ⌝ }
-    requires { ⌜ (length (now b) / 2 ≤ 16384) × StackRoom (length (now b) / 2) (now stack) (now sizes) ⌝ }
+    requires { ⌜ (length (now b) / 2 ≤ 16384) × StackRoom (length (now b) / 2) (now stack) (now starts) ⌝ }
     ensures { λ r. ⌜ ((A : Automaton) → Evaluable A (now (ranks .entry)) (now (rows .entry)) (now (index .entry))
-        → steppedOf (now (stack .exit)) (now (sizes .exit)) r ≡ advanceAll A start (bytes.numbers (now (b .entry)))) ⌝ }
+        → steppedOf (now (stack .exit)) (now (starts .exit)) r ≡ advanceAll A walk.start (bytes.numbers (now (b .entry)))) ⌝ }
 {
     let mut held = Held {
         height: 0,
@@ -349,7 +292,8 @@ fn evaluate(
         first: First::Nowhere,
     };
     while held.nodes < b.len() / 2 {
-        match walk(ranks, rows, index, b, stack, sizes, held) {
+        let symbol = symbol_at(b, 2 * held.nodes);
+        match step(ranks, rows, index, symbol, stack, starts, held) {
             Stepped::Refused(cause) => return Stepped::Refused(cause),
             Stepped::On(next) => held = next,
         }
@@ -368,8 +312,8 @@ fn has_final(finals: StateSet, stack: &[u64]) -> bool
 // The answer for the tree on the stack, if there is one alone. The subtree to be named is the first that belongs to no state, or the whole tree.
 fn accept_stack(held: Held, finals: StateSet, stack: &[u64]) -> Answer
     requires { ⌜ (4 ≤ length (now stack)) × (held .height ≤ held .nodes) ⌝ }
-    ensures { λ r. ⌜ ((A : Automaton) (sizes : List ℕ) → A .states ≤ 256 → A .finals ≡ statesIn (A .states) (finals .words)
-        → Holdable A (walkIn (now (stack .entry)) sizes held) → findingOf r ≡ closing A (walkIn (now (stack .entry)) sizes held)) ⌝ }
+    ensures { λ r. ⌜ ((A : Automaton) (starts : List ℕ) → A .states ≤ 256 → A .finals ≡ statesIn (A .states) (finals .words)
+        → Holdable A (walkIn (now (stack .entry)) starts held) → findingOf r ≡ closing A (walkIn (now (stack .entry)) starts held)) ⌝ }
 {
     if held.height != 1 {
         return Answer::Refused(Refusal::Unbalanced);
@@ -396,14 +340,14 @@ fn accept_nodes_on(
     index: &[u16],
     b: &[u8],
     stack: &mut [u64],
-    sizes: &mut [u16],
+    starts: &mut [u16],
 ) -> Answer
     requires { ⌜ ((A : Automaton) × Evaluable A (now ranks) (now rows) (now index)) ⌝ }
-    requires { ⌜ (length (now b) / 2 ≤ 16384) × StackRoom (length (now b) / 2) (now stack) (now sizes) × (4 ≤ length (now stack)) ⌝ }
+    requires { ⌜ (length (now b) / 2 ≤ 16384) × StackRoom (length (now b) / 2) (now stack) (now starts) × (4 ≤ length (now stack)) ⌝ }
     ensures { λ r. ⌜ ((A : Automaton) → Evaluable A (now (ranks .entry)) (now (rows .entry)) (now (index .entry))
         → A .finals ≡ statesIn (A .states) (finals .words) → findingOf r ≡ nodesFinding A (bytes.numbers (now (b .entry)))) ⌝ }
 {
-    match evaluate(ranks, rows, index, b, stack, sizes) {
+    match evaluate(ranks, rows, index, b, stack, starts) {
         Stepped::Refused(cause) => Answer::Refused(cause),
         Stepped::On(held) => accept_stack(held, finals, stack),
     }
@@ -417,12 +361,12 @@ fn accept_nodes(finals: StateSet, ranks: &[u8], rows: &[u8], index: &[u16], b: &
 {
     if b.len() <= 128 {
         let mut stack: [u64; 256] = [0; 256];
-        let mut sizes: [u16; 64] = [0; 64];
-        return accept_nodes_on(finals, ranks, rows, index, b, &mut stack, &mut sizes);
+        let mut starts: [u16; 64] = [0; 64];
+        return accept_nodes_on(finals, ranks, rows, index, b, &mut stack, &mut starts);
     }
     let mut stack: [u64; 4096] = [0; 4096];
-    let mut sizes: [u16; 1024] = [0; 1024];
-    accept_nodes_on(finals, ranks, rows, index, b, &mut stack, &mut sizes)
+    let mut starts: [u16; 1024] = [0; 1024];
+    accept_nodes_on(finals, ranks, rows, index, b, &mut stack, &mut starts)
 }
 
 // Whether `t` is one record of kind 16 with an even body, and nothing after it.

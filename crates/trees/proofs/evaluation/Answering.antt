@@ -35,7 +35,7 @@ use Rattle.indexing.specs.Index.{Indexes}
 use Rattle.trees.specs.Postfix.{single, isTreeRecord, judgeTree}
 use Rattle.trees.specs.Subtree.{Finding, accepted, pointed}
 use Rattle.trees.specs.Walk.{Waiting, start, advanceAll, closing}
-use Rattle.trees.specs.Inner.{Evaluable, waitingAt, stackIn, walkIn, steppedOf, Holdable, nodesFinding, treeFinding}
+use Rattle.trees.specs.Inner.{Evaluable, stackIn, walkIn, steppedOf, Holdable, nodesFinding, treeFinding}
 use Rattle.trees.specs.declared.evaluation.Held.{Held}
 use Rattle.trees.specs.declared.evaluation.Stepped.{Stepped}
 use Rattle.trees.specs.declared.evaluation.Stepped.the-variants.{On, Refused}
@@ -54,22 +54,22 @@ passing-low test kept n few low =
         any-in _ (keep-in kept (from-member k 0 (u .element) (omega arith) (omega arith)) passes) (u .passes)
 
 -- One tree on the stack, or another number of trees.
-module _ (A : Automaton) (words sizes : List ℕ) (held : Held) where
-  pub not-one-refused : (held .height ≡ 1 → ⊥) → refused 10 ≡ closing A (walkIn words sizes held)
+module _ (A : Automaton) (words starts : List ℕ) (held : Held) where
+  pub not-one-refused : (held .height ≡ 1 → ⊥) → refused 10 ≡ closing A (walkIn words starts held)
   unfolding closing walkIn single stackIn _>>=_
   not-one-refused other = go (held .height) other
     where
-      go : (h : ℕ) → (h ≡ 1 → ⊥) → refused 10 ≡ (single (stackIn words sizes h)
+      go : (h : ℕ) → (h ≡ 1 → ⊥) → refused 10 ≡ (single (stackIn words starts h (held .nodes))
           >>= (λ (t : Waiting). found (cond (any (among (t .states)) (A .finals)) accepted (pointed (held .first) (held .nodes)))))
       go zero other = refl
       go (suc zero) other = absurd (other refl)
       go (suc (suc h)) other = refl
 
-  pub one-answered : (set : List ℕ) → A .states ≤ 256 → A .finals ≡ statesIn (A .states) set → Holdable A (walkIn words sizes held)
+  pub one-answered : (set : List ℕ) → A .states ≤ 256 → A .finals ≡ statesIn (A .states) set → Holdable A (walkIn words starts held)
       → held .height ≡ 1
-      → closing A (walkIn words sizes held)
+      → closing A (walkIn words starts held)
       ≡ found (cond (any (member (entryAt words 0)) (statesIn 256 set)) accepted (pointed (held .first) (held .nodes)))
-  unfolding closing walkIn single stackIn waitingAt statesIn _>>=_
+  unfolding closing walkIn single stackIn statesIn _>>=_
   one-answered set few finals holdable one =
       let states = all-first (rw one at (holdable .states)) in
       let low : (q : ℕ) → q < 256 → member (entryAt words 0) q ≡ true → q < A .states =
@@ -83,17 +83,17 @@ module _ (A : Automaton) (words sizes : List ℕ) (held : Held) where
       rw (one, same)
 
 -- The nodes.
-module _ (A : Automaton) (symbols words sizes : List ℕ) (answer : Stepped) (s : steppedOf words sizes answer ≡ advanceAll A start symbols) where
+module _ (A : Automaton) (symbols words starts : List ℕ) (answer : Stepped) (s : steppedOf words starts answer ≡ advanceAll A start symbols) where
   pub nodes-refused : (cause : Refusal) → answer ≡ Refused cause → refused (numberOf cause) ≡ nodesFinding A symbols
   unfolding nodesFinding steppedOf _>>=_
   nodes-refused cause e = rw (← s, e)
 
   module _ (held : Held) (e : answer ≡ On held) where
-    pub nodes-holdable : Holdable A (walkIn words sizes held)
+    pub nodes-holdable : Holdable A (walkIn words starts held)
     unfolding steppedOf
-    nodes-holdable = walked-holdable A start symbols (start-holdable A) (sym s ∙ ap (steppedOf words sizes) e)
+    nodes-holdable = walked-holdable A start symbols (start-holdable A) (sym s ∙ ap (steppedOf words starts) e)
 
-    pub nodes-found : (r : Read Finding) → r ≡ closing A (walkIn words sizes held) → r ≡ nodesFinding A symbols
+    pub nodes-found : (r : Read Finding) → r ≡ closing A (walkIn words starts held) → r ≡ nodesFinding A symbols
     unfolding nodesFinding steppedOf _>>=_
     nodes-found r is = is ∙ rw (← s, e)
 

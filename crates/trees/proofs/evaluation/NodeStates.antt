@@ -100,17 +100,21 @@ pub in-order-one-more : (sets children : List ℕ) (j : ℕ) → j < length chil
 in-order-one-more sets children j h =
     rw (add-one, take-suc children j 0 h, in-order-snoc sets (take j children), length-take-le j children (omega arith))
 
-pub in-order-one : (sets children : List ℕ) → length children ≡ 1 → inOrder sets children ≡ member (entryAt sets 0) (getD children 0 0)
+pub in-order-none : (sets children : List ℕ) → length children ≡ 0 → inOrder sets children ≡ true
 unfolding inOrder
-in-order-one sets children one =
-    ap (inOrder sets) (sym (take-all 1 children (omega arith))) ∙ in-order-one-more sets children 0 (omega arith)
+in-order-none sets [] none = refl
+in-order-none sets (q ∷ qs) none = absurd (omega arith)
 
-pub in-order-two : (sets children : List ℕ) → length children ≡ 2
-    → inOrder sets children ≡ (member (entryAt sets 0) (getD children 0 0) && member (entryAt sets 1) (getD children 1 0))
+in-order-first : (sets children : List ℕ) → 1 ≤ length children → inOrder sets (take 1 children) ≡ member (entryAt sets 0) (getD children 0 0)
 unfolding inOrder
-in-order-two sets children two =
-    ap (inOrder sets) (sym (take-all 2 children (omega arith)))
-    ∙ in-order-one-more sets children 1 (omega arith) ∙ rw (in-order-one-more sets children 0 (omega arith))
+in-order-first sets children some = in-order-one-more sets children 0 (omega arith)
+
+pub in-order-one : (sets children : List ℕ) → length children ≡ 1 → inOrder sets children ≡ member (entryAt sets 0) (getD children 0 0)
+in-order-one sets children one = ap (inOrder sets) (sym (take-all 1 children (omega arith))) ∙ in-order-first sets children (omega arith)
+
+pub in-order-two : (sets children : List ℕ) → 2 ≤ length children
+    → inOrder sets (take 2 children) ≡ (member (entryAt sets 0) (getD children 0 0) && member (entryAt sets 1) (getD children 1 0))
+in-order-two sets children two = in-order-one-more sets children 1 (omega arith) ∙ rw (in-order-first sets children (omega arith))
 
 in-order-empty : (sets children : List ℕ) (e : ℕ) → All (λ (q : ℕ). q < 256) children → e < length children
     → entryAt sets e ≡ emptySet → inOrder sets children ≡ false

@@ -1,17 +1,17 @@
 -- The stack of the walk in arrays: the trees that a node takes off it, the states that the rules of the node's symbol give from their sets, and the
--- stack after the node's own set and size are put. From NodeStates; for `step` and the answer in Answering.
+-- stack after the node's own set and start are put. From NodeStates; for `step`, and for Nodes.
 use Prim.Native.Nat.{ℕ, zero, suc, _+_, _-_, _*_, _≤_, _<_}
-use native.Mathlib.Nat.{add-zero, zero-add, suc-add, add-comm}
+use native.Mathlib.Nat.{add-zero, zero-add, suc-add, add-comm, add-sub-cancel}
 use native.Mathlib.Numerals.{add-one}
 use native.Mathlib.Omega.{arith}
 use mathlib.Core.Path.{_≡_, refl, sym, ap, _∙_}
-use mathlib.Core.List.{List, [], _∷_, _++_, map, map-append, reverse, reverse-cons, List·Memᴰ}
+use mathlib.Core.List.{List, [], _∷_, _++_, map, map-append, reverse, reverseAux, reverse-cons, List·Memᴰ}
 use mathlib.Core.Bool.{Bool, true, false, not, _&&_, and-false}
-use lib.ListN.{length, take, drop, getD, set}
-use lib.Seq.{drop-drop, drop-cons, getD-set-same, getD-set-other}
+use lib.ListN.{length, take, drop, getD, set, length-append, List·getD-append}
+use lib.Seq.{drop-drop, getD-at, getD-set-same, getD-set-other}
 use lib.Dec.{eqb, ltb}
 use borrow.Author.Tests.{eqb-true, lt-ltb}
-use Rattle.lists.specs.Lists.{All, also, from, any}
+use Rattle.lists.specs.Lists.{All, also, from, any, among}
 use Rattle.lists.specs.Over.{over}
 use Rattle.lists.proofs.Booleans.{and-true-out}
 use Rattle.lists.proofs.Elements.{all-member}
@@ -29,78 +29,116 @@ use Rattle.automaton.proofs.Rows.{rule-in, rule-low}
 use Rattle.indexing.specs.Index.{keyed, numbersOf}
 use Rattle.indexing.proofs.Indexing.{keyed-members}
 use Rattle.trees.specs.Walk.{Waiting, haveInOrder, leadsTo, sizesOf, joined, isNone}
-use Rattle.trees.specs.Inner.{Evaluable, inOrder, ruleGives, sum, waitingAt, stackIn}
+use Rattle.trees.specs.Inner.{Evaluable, inOrder, ruleGives, stackIn, Consecutive, startOf}
 use Rattle.trees.proofs.Walking.{among-kept, is-none-kept}
 use Rattle.trees.proofs.evaluation.NodeStates.{entry-after-drop}
 
 from-last : (e r : ℕ) → from e (suc r) ≡ from e r ++ ((r + e) ∷ [])
 from-last e r = rw (← add-one, from-step, add-comm)
 
-module _ (words sizes : List ℕ) where
-  pub length-stack : (h : ℕ) → length (stackIn words sizes h) ≡ h
-  unfolding stackIn
-  length-stack zero = refl
-  length-stack (suc h) = ap suc (length-stack h)
+-- Where r trees start that stand on e others.
+module _ (starts : List ℕ) where
+  start-below : (r e : ℕ) → startOf starts e r (getD starts (r + e) 0) ≡ getD starts e 0
+  unfolding startOf
+  start-below zero e = rw zero-add
+  start-below (suc r) e = refl
 
-  -- The r topmost trees of a stack, from below, and those under them.
-  pub stack-below : (r e : ℕ) → drop r (stackIn words sizes (r + e)) ≡ stackIn words sizes e
-  unfolding stackIn
-  stack-below zero e = rw zero-add
-  stack-below (suc r) e = rw suc-add (stack-below r e)
+  pub start-low : (r e end : ℕ) → Consecutive starts (r + e) end → startOf starts e r end ≤ end
+  unfolding Consecutive startOf
+  start-low zero e end c = omega arith
+  start-low (suc r) e end c =
+      let (low, below) = rw suc-add at c in
+      omega (arith, start-low r e (getD starts (r + e) 0) below, start-below r e)
 
-  pub stack-children : (r e : ℕ) → reverse (take r (stackIn words sizes (r + e))) ≡ map (waitingAt words sizes) (from e r)
-  unfolding stackIn from
-  stack-children zero e = refl
-  stack-children (suc r) e =
-      rw (suc-add, reverse-cons, stack-children r e)
-      (sym (ap (map (waitingAt words sizes)) (from-last e r) ∙ map-append (waitingAt words sizes) (from e r) ((r + e) ∷ [])))
+  pub consecutive-below : (r e end : ℕ) → Consecutive starts (r + e) end → Consecutive starts e (startOf starts e r end)
+  unfolding Consecutive startOf
+  consecutive-below zero e end c = rw zero-add at c
+  consecutive-below (suc r) e end c =
+      let (low, below) = rw suc-add at c in
+      rw start-below at (consecutive-below r e (getD starts (r + e) 0) below)
 
-  pub have-in-order : (e r : ℕ) (qs : List ℕ) → length qs ≡ r → All (λ (q : ℕ). q < 256) qs
-      → haveInOrder (map (waitingAt words sizes) (from e r)) qs ≡ inOrder (drop (4 * e) words) qs
-  unfolding haveInOrder from inOrder waitingAt statesIn
-  have-in-order e zero [] l low = refl
-  have-in-order e zero (q ∷ qs) l low = absurd (omega arith)
-  have-in-order e (suc r) [] l low = absurd (omega arith)
-  have-in-order e (suc r) (q ∷ qs) l (also low lows) =
+sizes-reverse : (ws : List Waiting) → sizesOf (reverse ws) ≡ sizesOf ws
+unfolding sizesOf
+sizes-reverse ws = go ws [] ∙ add-zero (sizesOf ws)
+  where
+    go : (ws vs : List Waiting) → sizesOf (reverseAux ws vs) ≡ sizesOf ws + sizesOf vs
+    go [] vs = sym (zero-add (sizesOf vs))
+    go (w ∷ ws) vs = go ws (w ∷ vs) ∙ omega arith
+
+-- As `haveInOrder`, over the trees' states alone.
+unfoldable allIn : List (List ℕ) → List ℕ → Bool
+allIn [] [] = true
+allIn [] (q ∷ qs) = false
+allIn (s ∷ ss) [] = false
+allIn (s ∷ ss) (q ∷ qs) = among s q && allIn ss qs
+
+abbrev statesOf : Waiting → List ℕ
+statesOf w = w .states
+
+have-states : (ws : List Waiting) (qs : List ℕ) → haveInOrder ws qs ≡ allIn (map statesOf ws) qs
+unfolding haveInOrder allIn
+have-states [] [] = refl
+have-states [] (q ∷ qs) = refl
+have-states (w ∷ ws) [] = refl
+have-states (w ∷ ws) (q ∷ qs) = rw (have-states ws qs)
+
+module _ (words : List ℕ) where
+  abbrev statesAt : ℕ → List ℕ
+  statesAt e = statesIn 256 (entryAt words e)
+
+  all-in-order : (e r : ℕ) (qs : List ℕ) → length qs ≡ r → All (λ (q : ℕ). q < 256) qs
+      → allIn (map statesAt (from e r)) qs ≡ inOrder (drop (4 * e) words) qs
+  unfolding allIn from inOrder statesIn
+  all-in-order e zero [] l low = refl
+  all-in-order e zero (q ∷ qs) l low = absurd (omega arith)
+  all-in-order e (suc r) [] l low = absurd (omega arith)
+  all-in-order e (suc r) (q ∷ qs) l (also low lows) =
       let next : 4 * e + 4 ≡ 4 * suc e = omega arith in
       rw (
         among-kept (member (entryAt words e)) 256 q low,
-        have-in-order (suc e) r qs (omega arith) lows,
+        all-in-order (suc e) r qs (omega arith) lows,
         entry-after-drop words e 0,
         add-zero,
         drop-drop,
         next,
       )
 
-  pub sizes-sum : (e r : ℕ) → e + r ≤ length sizes → sizesOf (map (waitingAt words sizes) (from e r)) ≡ sum (take r (drop e sizes))
-  unfolding sizesOf from waitingAt sum
-  sizes-sum e zero h = refl
-  sizes-sum e (suc r) h = rw (drop-cons sizes e 0 (omega arith), sizes-sum (suc e) r (omega arith))
+  module _ (starts : List ℕ) where
+    pub length-stack : (h end : ℕ) → length (stackIn words starts h end) ≡ h
+    unfolding stackIn
+    length-stack zero end = refl
+    length-stack (suc h) end = ap suc (length-stack h (getD starts h 0))
 
--- Sums of the first numbers of a list.
-pub sum-more : (l : List ℕ) (j : ℕ) → j < length l → sum (take (suc j) l) ≡ sum (take j l) + getD l j 0
-unfolding sum
-sum-more [] j h = absurd (omega arith)
-sum-more (x ∷ l) zero h = omega arith
-sum-more (x ∷ l) (suc j) h = omega (arith, sum-more l j (omega arith))
+    -- Of a stack whose r topmost trees are taken off: what is left, their sets from below, and what their sizes add up to.
+    pub stack-below : (r e end : ℕ) → drop r (stackIn words starts (r + e) end) ≡ stackIn words starts e (startOf starts e r end)
+    unfolding stackIn startOf
+    stack-below zero e end = rw zero-add
+    stack-below (suc r) e end =
+        rw suc-add (stack-below r e (getD starts (r + e) 0) ∙ ap (stackIn words starts e) (start-below starts r e))
 
-pub sum-one : (l : List ℕ) → 1 ≤ length l → sum (take 1 l) ≡ getD l 0 0
-unfolding sum
-sum-one [] h = absurd (omega arith)
-sum-one (x ∷ l) h = add-zero x
+    pub stack-states : (r e end : ℕ)
+        → map statesOf (reverse (take r (stackIn words starts (r + e) end))) ≡ map statesAt (from e r)
+    unfolding stackIn from
+    stack-states zero e end = refl
+    stack-states (suc r) e end =
+        let below = take r (stackIn words starts (r + e) (getD starts (r + e) 0)) in
+        let top : Waiting = record { states = statesAt (r + e); size = end - getD starts (r + e) 0 } in
+        rw suc-add
+        (ap (map statesOf) (reverse-cons top below) ∙ map-append statesOf (reverse below) (top ∷ [])
+        ∙ ap (λ (ss : List (List ℕ)). ss ++ (statesAt (r + e) ∷ [])) (stack-states r e (getD starts (r + e) 0))
+        ∙ sym (ap (map statesAt) (from-last e r) ∙ map-append statesAt (from e r) ((r + e) ∷ [])))
 
-pub sum-two : (l : List ℕ) → 2 ≤ length l → sum (take 2 l) ≡ getD l 0 0 + getD l 1 0
-unfolding sum
-sum-two [] h = absurd (omega arith)
-sum-two (x ∷ []) h = absurd (omega arith)
-sum-two (x ∷ (y ∷ l)) h = rw add-zero
+    sizes-taken : (r e end : ℕ) → Consecutive starts (r + e) end
+        → sizesOf (take r (stackIn words starts (r + e) end)) + startOf starts e r end ≡ end
+    unfolding sizesOf stackIn Consecutive startOf
+    sizes-taken zero e end c = zero-add end
+    sizes-taken (suc r) e end c =
+        let (low, below) = rw suc-add at c in
+        rw suc-add (omega (arith, sizes-taken r e (getD starts (r + e) 0) below, start-below starts r e))
 
-pub sum-fewer : (l : List ℕ) (j n : ℕ) → j ≤ n → sum (take j l) ≤ sum (take n l)
-unfolding sum
-sum-fewer l zero n h = omega arith
-sum-fewer [] (suc j) (suc n) h = omega arith
-sum-fewer (x ∷ l) (suc j) (suc n) h = omega (arith, sum-fewer l j n (omega arith))
-sum-fewer l (suc j) zero h = absurd (omega arith)
+    pub stack-sizes : (r e end : ℕ) → Consecutive starts (r + e) end
+        → sizesOf (reverse (take r (stackIn words starts (r + e) end))) + startOf starts e r end ≡ end
+    stack-sizes r e end c = rw sizes-reverse (sizes-taken r e end c)
 
 -- A set is empty if it has no states.
 pub no-states : (new : List ℕ) → length new ≡ 4 → Bounded new → sameSet new emptySet ≡ isNone (statesIn 256 new)
@@ -125,17 +163,15 @@ module _ {A : Automaton} {ranks rows index : List ℕ} (v : Evaluable A ranks ro
         let (low, symbol) = keyed-members (λ (u : Rule). u .symbol) rows f (length (A .rules)) i (rw (v .index-is .numbers f known) at m) in
         (v .rows-hold .row i low, sym (rule-arity i low symbol))
 
-    module _ (bytes : Bytes rows) (words sizes : List ℕ) (e : ℕ) where
-      abbrev children : List Waiting
-      children = map (waitingAt words sizes) (from e (getD ranks f 0))
-
+    module _ (bytes : Bytes rows) (words : List ℕ) (e : ℕ) (children : List Waiting)
+        (are : map statesOf children ≡ map (statesAt words) (from e (getD ranks f 0))) where
       rule-leads : (q i : ℕ) → i < length (A .rules) → (t : Bool) → eqb (ruleAt rows i .symbol) f ≡ t
           → (t && ruleGives rows (drop (4 * e) words) q i)
           ≡ (eqb (ruleAt rows i .target) q && (t && haveInOrder children (ruleAt rows i .children)))
       unfolding ruleGives
       rule-leads q i h true is =
-          ap (λ (t : Bool). eqb (ruleAt rows i .target) q && t)
-          (sym (have-in-order words sizes e (getD ranks f 0) (ruleAt rows i .children) (rule-arity i h (eqb-true _ f is)) (rule-low rows i bytes .2)))
+          let in-order = all-in-order words e (getD ranks f 0) (ruleAt rows i .children) (rule-arity i h (eqb-true _ f is)) (rule-low rows i bytes .2) in
+          ap (λ (t : Bool). eqb (ruleAt rows i .target) q && t) (sym (have-states children (ruleAt rows i .children) ∙ rw are in-order))
       rule-leads q i h false is = sym (and-false (eqb (ruleAt rows i .target) q))
 
       node-leads : (q : ℕ) → any (ruleGives rows (drop (4 * e) words) q) (numbersOf index f) ≡ leadsTo (A .rules) f children q
@@ -157,26 +193,93 @@ module _ {A : Automaton} {ranks rows index : List ℕ} (v : Evaluable A ranks ro
           rw (lt-ltb q (A .states) (omega (arith, all-member (v .well-formed .rules) (u .member) .target)))
 
       pub node-joined : (new : List ℕ) → Has new (λ (q : ℕ). any (ruleGives rows (drop (4 * e) words) q) (numbersOf index f))
-          → e + getD ranks f 0 ≤ length sizes
-          → record { states = statesIn 256 new; size = 1 + sum (take (getD ranks f 0) (drop e sizes)) } ≡ joined A f children
+          → (size : ℕ) → size ≡ suc (sizesOf children)
+          → record { states = statesIn 256 new; size = size } ≡ joined A f children
       unfolding joined
-      node-joined new has room =
+      node-joined new has size is =
           let states = states-below (leadsTo (A .rules) f children) new (A .states) (v .well-formed .states)
           (λ q low. has q low ∙ node-leads q ∙ leads-low q _ refl) in
-          let size : 1 + sum (take (getD ranks f 0) (drop e sizes)) ≡ suc (sizesOf children) =
-          omega (arith, sizes-sum words sizes e (getD ranks f 0) room) in
-          rw (states, size)
+          rw (states, is)
 
--- A set and a size put at place e: what stands below it stays.
-module _ (words sizes new : List ℕ) (e size : ℕ) (four : length new ≡ 4) (room : 4 * e + 4 ≤ length words) (place : e < length sizes) where
-  put-below : (h : ℕ) → h ≤ e → stackIn (over words (4 * e) new) (set sizes e size) h ≡ stackIn words sizes h
-  unfolding stackIn waitingAt
-  put-below zero l = refl
-  put-below (suc h) l =
-      let other : h ≡ e → ⊥ = λ p. omega arith in
-      rw (entry-other words new e four room h other, getD-set-other sizes e h size 0 other, put-below h (omega arith))
+-- Arrays that are the same below the height hold the same: what stands in them from there on does not matter.
+module _ (starts starts′ : List ℕ) where
+  consecutive-same : (h end : ℕ) → ((e : ℕ) → e < h → getD starts′ e 0 ≡ getD starts e 0) → Consecutive starts h end → Consecutive starts′ h end
+  unfolding Consecutive
+  consecutive-same zero end same c = c
+  consecutive-same (suc h) end same c =
+      rw (same h (omega arith)) (c .0, consecutive-same h (getD starts h 0) (λ e l. same e (omega arith)) (c .1))
 
-  pub put-stack : stackIn (over words (4 * e) new) (set sizes e size) (e + 1)
-      ≡ record { states = statesIn 256 new; size = size } ∷ stackIn words sizes e
-  unfolding stackIn waitingAt
-  put-stack = rw (add-one, entry-put words new e four room, getD-set-same sizes e size 0 place, put-below e (omega arith))
+  stack-same : (words words′ : List ℕ) (h end : ℕ) → ((e : ℕ) → e < h → entryAt words′ e ≡ entryAt words e)
+      → ((e : ℕ) → e < h → getD starts′ e 0 ≡ getD starts e 0)
+      → stackIn words′ starts′ h end ≡ stackIn words starts h end
+  unfolding stackIn
+  stack-same words words′ zero end sets same = refl
+  stack-same words words′ (suc h) end sets same =
+      rw (
+        sets h (omega arith),
+        same h (omega arith),
+        stack-same words words′ h (getD starts h 0) (λ e l. sets e (omega arith)) (λ e l. same e (omega arith)),
+      )
+
+-- A set and a start put at place e.
+module _ (starts : List ℕ) (e start : ℕ) (place : e < length starts) where
+  put-below : (i : ℕ) → i < e → getD (set starts e start) i 0 ≡ getD starts i 0
+  put-below i l = getD-set-other starts e i start 0 (λ p. omega arith)
+
+  pub put-consecutive : (end : ℕ) → start ≤ end → Consecutive starts e start → Consecutive (set starts e start) (e + 1) end
+  unfolding Consecutive
+  put-consecutive end l c =
+      rw (add-one, getD-set-same starts e start 0 place) (l, consecutive-same starts (set starts e start) e start put-below c)
+
+  pub put-stack : (words new : List ℕ) (end : ℕ) → length new ≡ 4 → 4 * e + 4 ≤ length words
+      → stackIn (over words (4 * e) new) (set starts e start) (e + 1) end
+      ≡ record { states = statesIn 256 new; size = end - start } ∷ stackIn words starts e start
+  unfolding stackIn
+  put-stack words new end four room =
+      rw (
+        add-one,
+        entry-put words new e four room,
+        getD-set-same starts e start 0 place,
+        stack-same starts (set starts e start) words (over words (4 * e) new) e start
+            (λ i l. entry-other words new e four room i (λ p. omega arith)) put-below,
+      )
+
+-- Every stack of trees has starts: each tree starts after those under it. So the equation of a step is about every stack whose sizes add up to the
+-- number of nodes.
+unfoldable pub startsOf : List Waiting → List ℕ
+startsOf [] = []
+startsOf (w ∷ ws) = startsOf ws ++ (sizesOf ws ∷ [])
+
+length-starts : (ws : List Waiting) → length (startsOf ws) ≡ length ws
+unfolding startsOf
+length-starts [] = refl
+length-starts (w ∷ ws) = omega (arith, length-append (startsOf ws) (sizesOf ws ∷ []), length-starts ws)
+
+last-start : (w : Waiting) (ws : List Waiting) → getD (startsOf (w ∷ ws)) (length ws) 0 ≡ sizesOf ws
+unfolding startsOf
+last-start w ws = getD-at (startsOf ws) (sizesOf ws) [] 0 (length ws) (length-starts ws)
+
+other-starts : (w : Waiting) (ws : List Waiting) (e : ℕ) → e < length ws → getD (startsOf (w ∷ ws)) e 0 ≡ getD (startsOf ws) e 0
+unfolding startsOf
+other-starts w ws e l = List·getD-append (startsOf ws) (sizesOf ws ∷ []) 0 e (omega (arith, length-starts ws))
+
+pub starts-consecutive : (ws : List Waiting) → Consecutive (startsOf ws) (length ws) (sizesOf ws)
+unfolding Consecutive sizesOf
+starts-consecutive [] = refl
+starts-consecutive (w ∷ ws) =
+    rw (last-start w ws)
+    (omega arith, consecutive-same (startsOf ws) (startsOf (w ∷ ws)) (length ws) (sizesOf ws) (other-starts w ws) (starts-consecutive ws))
+
+abbrev sizeOf : Waiting → ℕ
+sizeOf w = w .size
+
+pub starts-sizes : (words : List ℕ) (ws : List Waiting) → map sizeOf (stackIn words (startsOf ws) (length ws) (sizesOf ws)) ≡ map sizeOf ws
+unfolding stackIn sizesOf
+starts-sizes words [] = refl
+starts-sizes words (w ∷ ws) =
+    rw (
+      last-start w ws,
+      add-sub-cancel,
+      stack-same (startsOf ws) (startsOf (w ∷ ws)) words words (length ws) (sizesOf ws) (λ e l. refl) (other-starts w ws),
+      starts-sizes words ws,
+    )

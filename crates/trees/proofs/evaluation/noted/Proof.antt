@@ -17,4 +17,6 @@ unfolding noted
 returns-3 c = let e = c .before in rw (e .before .enum-told .given .1, ← e .is-empty .ensures, c .if1 .left)
 
 pub noted-spec : {M : Type 1} → statement M
-noted-spec = tie.close (tie.spec (λ c. search needs) (λ c. search needs) (λ c κs. search needs) returns returns-2 returns-3)
+noted-spec =
+    tie.close
+    (tie.spec (λ c. search needs) (λ c. search needs) (λ c κs. search needs) (λ c. search needs) (λ c. search needs) returns returns-2 returns-3)

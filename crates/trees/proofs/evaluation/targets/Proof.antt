@@ -18,23 +18,23 @@ use Rattle.trees.proofs.evaluation.NodeStates.{bit-at-most-one, no-targ
 use Rattle.trees.proofs.evaluation.targets.Statement.{statement}
 
 abbrev Inv-loop : tie.InvT-loop
-Inv-loop rows numbers sets rank spread₀ j₀ spread j =
+Inv-loop rows numbers sets rank test-empty spread₀ j₀ spread j =
     (j ≤ length numbers) × (length spread ≡ 8) × Has (gathered spread) (λ (q : ℕ). any (ruleGives rows sets q) (take j numbers))
 
 abbrev μ-loop : tie.MeasureT-loop
-μ-loop rows numbers sets rank spread₀ j₀ spread j = length numbers - j
+μ-loop rows numbers sets rank test-empty spread₀ j₀ spread j = length numbers - j
 
 abbrev start : tie.At-loop Inv-loop μ-loop → tie.Start Inv-loop μ-loop
-start c = c .before .before .before .before .before .before
+start c = c .before .before .before .before .before
 
 returns : tie.Need-returns Inv-loop μ-loop
 returns c =
     let h = c .before .before in
-    let k = h .before in
+    let k = h .before .before in
     let s = k .before .before .before in
     rw (c .empty .ensures)
     (no-targets-of-empty _ _ _ (s .args .rank) (s .pre .0) (λ i. k .before .before .shared-slice-known .given i .fits) (s .pre .1)
-    (sym (h .has-empty .ensures) ∙ c .before .if1 .taken))
+    (sym (h .has-empty .ensures) ∙ c .before .if2 .taken))
 
 loop-holds : tie.Need-loop-holds Inv-loop μ-loop
 unfolding any emptySet words gathered
