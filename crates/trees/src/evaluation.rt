@@ -95,37 +95,14 @@ fn fits(sets: &[u64], children: &[u8]) -> u64
     bit
 }
 
-// Whether set e is empty. The words are read one by one, and not in pairs for which the processor would wait.
-fn is_empty_at(sets: &[u64], e: usize) -> bool
-    requires { ⌜ 4 * e + 4 ≤ length (now sets) ⌝ }
-    ensures { λ r. ⌜ r ≡ sameSet (entryAt (now (sets .entry)) e) emptySet ⌝ }
-{
-    if sets[4 * e] != 0 {
-        return false;
-    }
-    sets[4 * e + 1] | sets[4 * e + 2] | sets[4 * e + 3] == 0
-}
-
-// Whether one of the first `count` sets is empty. The first two go without a loop.
+// Whether one of the first `count` sets is empty.
 fn has_empty(sets: &[u64], count: usize) -> bool
     requires { ⌜ 4 * count ≤ length (now sets) ⌝ }
     ensures { λ r. ⌜ r ≡ any (λ (e : ℕ). sameSet (entryAt (now (sets .entry)) e) emptySet) (from 0 count) ⌝ }
 {
-    if count == 0 {
-        return false;
-    }
-    if is_empty_at(sets, 0) {
-        return true;
-    }
-    if count == 1 {
-        return false;
-    }
-    if is_empty_at(sets, 1) {
-        return true;
-    }
-    let mut e: usize = 2;
+    let mut e: usize = 0;
     while e < count {
-        if is_empty_at(sets, e) {
+        if entry(sets, e).same(StateSet::empty()) {
             return true;
         }
         e += 1;
@@ -181,14 +158,6 @@ fn put_start(starts: &mut [u16], e: usize, rank: usize, node: usize)
     }
 }
 
-// Whether a set has no state.
-fn is_empty(set: StateSet) -> bool
-    ensures { λ r. ⌜ r ≡ sameSet (set .words) emptySet ⌝ }
-{
-    let w = set.words;
-    w[0] | w[1] | w[2] | w[3] == 0
-}
-
 // The first node whose tree belongs to no state, after one more, whose tree has this start and belongs to these states.
 fn noted(first: First, node: usize, start: usize, states: StateSet) -> First
     requires { ⌜ (start ≤ node) × (node < 16384) ⌝ }
@@ -197,7 +166,7 @@ fn noted(first: First, node: usize, start: usize, states: StateSet) -> First
     match first {
         First::At { node: i, size: s } => First::At { node: i, size: s },
         First::Nowhere => {
-            if is_empty(states) {
+            if states.same(StateSet::empty()) {
                 First::At {
                     node,
                     size: node + 1 - start,

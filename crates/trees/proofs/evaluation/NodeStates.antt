@@ -1,7 +1,6 @@
 -- What the sets of a node's children give: whether a rule's children are in them, child by child, and the targets of the rules whose children
 -- are, rule by rule. From the laws of state sets and their entries; for `bit_at`, `fits`, `targets`, and for whole stacks in Stacks.
 use Prim.Native.Nat.{ℕ, zero, suc, _+_, _*_, _/_, _%_, _^_, _≤_, _<_}
-use native.Mathlib.Nat.{add-zero}
 use native.Mathlib.Numerals.{add-one, one-add}
 use native.Mathlib.Omega.{arith}
 use mathlib.Core.Path.{_≡_, refl, sym, ap, _∙_}
@@ -9,13 +8,12 @@ use mathlib.Core.List.{List, [], _∷_, _++_, List·Memᴰ}
 use mathlib.Core.Bool.{Bool, true, false, cond, _&&_, _||_, and-true, and-false, and-assoc, or-comm, or-false}
 use lib.ListN.{length, take, drop, getD}
 use lib.Seq.{take-suc, take-all, drop-drop, length-take-le}
-use lib.Bits.{bitAnd, bitOr, or-add-and, and-le-l, and-le-r}
-use borrow.Author.Tests.{eqb-true, eq-eqb}
+use lib.Bits.{bitAnd}
 use lib.Dec.{eqb}
 use Rattle.lists.specs.Lists.{All, also, from, any}
 use Rattle.lists.proofs.Ranges.{member-from}
 use Rattle.lists.proofs.Search.{any-out, any-none, any-append}
-use Rattle.lists.proofs.Booleans.{same-bool, and-true-in, and-true-out, and-false-right}
+use Rattle.lists.proofs.Booleans.{and-false-right}
 use Rattle.sets.specs.Set.{member, words, emptySet, withState, sameSet}
 use Rattle.sets.specs.Entries.{entryAt}
 use Rattle.sets.specs.Inner.{Has}
@@ -50,36 +48,6 @@ bit-of-member sets e q h = rw (entry-at sets e (q / 64) (omega arith)) (go (getD
     go zero l = refl
     go (suc zero) l = refl
     go (suc (suc x)) l = absurd (omega arith)
-
--- Empty sets.
-
-pub or-empty : (a b : ℕ) → eqb (bitOr a b) 0 ≡ (eqb a 0 && eqb b 0)
-or-empty a b =
-    same-bool
-    (λ h.
-    let none = eqb-true (bitOr a b) 0 h in
-    and-true-in (eq-eqb a 0 (omega (arith, or-add-and a b, and-le-l a b, and-le-r a b)))
-    (eq-eqb b 0 (omega (arith, or-add-and a b, and-le-l a b, and-le-r a b))))
-    (λ h.
-    let (l, r) = and-true-out (eqb a 0) (eqb b 0) h in
-    eq-eqb (bitOr a b) 0 (omega (arith, or-add-and a b, eqb-true a 0 l, eqb-true b 0 r)))
-
-pub empty-entry : (sets : List ℕ) (e : ℕ) (t : Bool) → eqb (getD sets (4 * e) 0) 0 ≡ t
-    → sameSet (entryAt sets e) emptySet
-    ≡ (t && eqb (bitOr (bitOr (getD sets (4 * e + 1) 0) (getD sets (4 * e + 2) 0)) (getD sets (4 * e + 3) 0)) 0)
-unfolding sameSet emptySet words
-empty-entry sets e t is =
-    rw (
-      entry-at sets e 0 (omega arith),
-      entry-at sets e 1 (omega arith),
-      entry-at sets e 2 (omega arith),
-      entry-at sets e 3 (omega arith),
-      add-zero,
-      is,
-      or-empty,
-      or-empty,
-      and-assoc,
-    )
 
 -- Children in order.
 
