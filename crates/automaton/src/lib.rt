@@ -1,5 +1,7 @@
 // Reads and writes tables: bytes to an automaton or a refusal, and an automaton back to bytes.
 // What is above this crate works on decoded tables and never reads a table's bytes.
+#![tactic(auto)]
+
 mod decoding;
 mod row;
 mod table;

@@ -1,4 +1,6 @@
 // What the programs of worked examples share: the fields of a case from standard input, a checksum, and output.
+#![tactic(auto)]
+
 ghost use Rattle.std.specs.Prelude.{◌≤◌, ◌<◌};
 ghost use Rattle.io.specs.Counts.{IsPrefixLen};
 

@@ -1,6 +1,8 @@
 // Reads cases from standard input, each a table, a tree and three counts, and writes the answer of a check, with the subtree that it names, and the
 // counts after it.
 // A case: its name, after a byte of length; the table and the tree, each after four bytes of length; the counts, four bytes each.
+#![tactic(auto)]
+
 use automaton::number;
 use cases::{end_line, write_number, write_word};
 use simulation::{Answer, Counts};

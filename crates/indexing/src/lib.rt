@@ -1,4 +1,6 @@
 // An index of decoded rules by symbol or by target.
+#![tactic(auto)]
+
 mod index;
 
 // Exported for the crates above.

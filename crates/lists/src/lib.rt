@@ -1,1 +1,2 @@
 // Laws of lists. There is no code.
+#![tactic(auto)]

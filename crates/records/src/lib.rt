@@ -1,4 +1,6 @@
 // Records in bytes: opened and written. The refusals, each with document 01's number.
+#![tactic(auto)]
+
 mod bytes;
 mod output;
 mod record;

@@ -1,4 +1,6 @@
 // Reduces a table to the one that document 01's six steps give: it accepts the same trees and is never longer.
+#![tactic(auto)]
+
 mod blocks;
 mod growth;
 mod marking;

@@ -2,6 +2,8 @@
 // checksum of the whole output; then the same of the reduced table, reduced again with room for just its own bytes; then the report on
 // the table.
 // A case: its name, after a byte of length; the table, after four bytes of length; the room (four bytes).
+#![tactic(auto)]
+
 ghost use Rattle.std.specs.Prelude.{◌≡◌, length};
 
 use automaton::number;

@@ -1,4 +1,6 @@
 // Computes the downward simulation preorder of decoded rules, by rounds.
+#![tactic(auto)]
+
 mod matching;
 mod rounds;
 

@@ -1,6 +1,8 @@
 // Reads cases from standard input, each a table, the room for its relation and pairs of states, and writes what the two queries find.
 // A case: its name, after a byte of length; the table, after four bytes of length; the room (four bytes); the number of pairs
 // (two bytes), and two bytes for each state of each pair.
+#![tactic(auto)]
+
 ghost use Rattle.std.specs.Prelude.{◌≡◌, length};
 
 use automaton::number;

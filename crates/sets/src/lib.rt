@@ -1,4 +1,6 @@
 // Sets of states in words, alone and one after the other in a lent array.
+#![tactic(auto)]
+
 mod entries;
 mod set;
 mod states;

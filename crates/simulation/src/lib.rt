@@ -1,4 +1,6 @@
 // Checks trees against tables, and answers the queries of the downward simulation preorder of a table's states.
+#![tactic(auto)]
+
 mod checking;
 mod query;
 

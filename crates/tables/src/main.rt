@@ -1,5 +1,7 @@
 // Reads cases from standard input, each a name and some bytes, and writes what opening, judging, decoding and writing find.
 // A case: its name, after a byte of length, and its bytes, after four bytes of length.
+#![tactic(auto)]
+
 mod case;
 
 fn main() {

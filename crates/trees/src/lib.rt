@@ -1,4 +1,6 @@
 // Evaluates a tree in bytes against a decoded table.
+#![tactic(auto)]
+
 mod evaluation;
 
 // Exported for the crates above.
