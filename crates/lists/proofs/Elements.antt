@@ -27,6 +27,7 @@ pub all_rest : {A : Type 0} {P : A → Type 0} {x : A} {xs : List A} → All P (
 all_rest (also p ps) = ps
 
 pub all_member : {A : Type 0} {P : A → Type 0} {x : A} {xs : List A} → All P xs → Memᴰ x xs → P x
+all_member none m = elim m [ ]
 all_member {P = P} (also p ps) (Memᴰ.head e) = subst⁻¹ P e p
 all_member (also p ps) (Memᴰ.tail m) = all_member ps m
 

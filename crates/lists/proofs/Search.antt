@@ -60,10 +60,13 @@ module _ {A : Type 0} (test : A → Bool) where
   all_in (x ∷ xs) f =
       and_true_in (f x (Memᴰ.head refl)) (all_in xs (λ y m. f y (Memᴰ.tail m)))
 
-  pub all_out : {xs : List A} → all test xs ≡ true → (x : A) → Memᴰ x xs → test x ≡ true
+  all_found : {x : A} {xs : List A} → Memᴰ x xs → all test xs ≡ true → test x ≡ true
   unfolding all
-  all_out h x (Memᴰ.head {xs = xs} e) = ap test e ∙ (and_true_out _ (all test xs) h).0
-  all_out h x (Memᴰ.tail {x = y} {xs = xs} m) = all_out (and_true_out (test y) (all test xs) h).1 x m
+  all_found (Memᴰ.head {xs = xs} e) h = ap test e ∙ (and_true_out _ (all test xs) h).0
+  all_found (Memᴰ.tail {x = y} {xs = xs} m) h = all_found m (and_true_out (test y) (all test xs) h).1
+
+  pub all_out : {xs : List A} → all test xs ≡ true → (x : A) → Memᴰ x xs → test x ≡ true
+  all_out h x m = all_found m h
 
 -- Searches through what a map or a test leaves.
 

@@ -3,7 +3,7 @@ ghost use Rattle.std.specs.Prelude.{◌≡◌, cond, ◌/◌, ◌%◌, ◌^◌, 
 ghost use Rattle.sets.specs.Set.{member, empty_set, with_state, without_state, union_of, meet_of, same_set};
 
 // State q is bit q mod 64 of word q div 64.
-#[derive(Drop)]
+#[derive(Clone, Copy)]
 pub struct StateSet {
     pub words: [u64; 4],
 }

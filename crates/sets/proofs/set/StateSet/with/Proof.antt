@@ -9,7 +9,7 @@ use Rattle.sets.proofs.set.StateSet.with.Statement.{statement}
 returns : tie.Need-returns
 unfolding with_state words
 returns c =
-    rw (c.bit-in4.ensures, c.before.bit-in3.ensures, c.before.before.bit-in2.ensures, c.before.before.before.bit_in.ensures)
+    rw (c.bit_in-4.ensures, c.before.bit_in-3.ensures, c.before.before.bit_in-2.ensures, c.before.before.before.bit_in.ensures)
     (words_changed bit_or or_zero_r _ _ _)
 
 pub with_spec : {M : Type 1} → statement M
