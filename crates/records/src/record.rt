@@ -7,7 +7,7 @@ use crate::bytes::{number2, number4};
 use crate::refusal::Refusal;
 
 // What opening the first record of a slice finds.
-#[derive(Drop)]
+#[derive(Clone, Copy)]
 pub enum Opened {
     // The record's kind, and the number of bytes up to its end.
     Record { kind: u16, end: usize },

@@ -1,0 +1,11 @@
+-- The loop copies: after j turns the first j bytes are written.
+use Rattle.std.proofs.Common.{◌≡◌, ◌-◌, ◌≤◌, length, take}
+use Rattle.lists.specs.Over.{over}
+use Rattle.records.proofs.output.put_bytes.Given as goal
+
+abbrev pub invariant-loop-j : goal.invariant-loop-j
+invariant-loop-j l =
+    (l.j ≤ l.count) × (length l.out ≡ length l.initial.out) × (l.out ≡ over l.initial.out l.at (take l.j l.src))
+
+abbrev pub decreases-loop-j : goal.decreases-loop-j
+decreases-loop-j l = l.count - l.j
