@@ -18,7 +18,7 @@ use records::{Refusal, body, number2, put_bytes};
 use sets::StateSet;
 
 // What judging a table returns, and its final states, which mean nothing where it is refused.
-#[derive(Drop)]
+#[derive(Clone, Copy)]
 pub struct Decoded {
     pub judged: Judged,
     pub finals: StateSet,

@@ -13,7 +13,7 @@ ghost use Rattle.automaton.specs.Inner.{passing, place_of, verdict_of};
 use records::{Opened, Refusal, body, number2, open};
 
 // The counts of a table: n, m and k.
-#[derive(Drop)]
+#[derive(Clone, Copy)]
 pub struct Size {
     pub states: usize,
     pub symbols: usize,
@@ -21,21 +21,21 @@ pub struct Size {
 }
 
 // The counts of a well-formed table, or the refusal.
-#[derive(Drop)]
+#[derive(Clone, Copy)]
 pub enum Judged {
     Table(Size),
     Refused(Refusal),
 }
 
 // Where a record ends, or the refusal.
-#[derive(Drop)]
+#[derive(Clone, Copy)]
 pub enum Place {
     At(usize),
     Refused(Refusal),
 }
 
 // Whether a part of a table passes.
-#[derive(Drop)]
+#[derive(Clone, Copy)]
 pub enum Verdict {
     Passed,
     Refused(Refusal),

@@ -18,7 +18,7 @@ use records::{Refusal, put_bytes, put_fields, put_head, put2};
 use sets::StateSet;
 
 // The length that was written, or the refusal.
-#[derive(Drop)]
+#[derive(Clone, Copy)]
 pub enum Written {
     Bytes(usize),
     Refused(Refusal),

@@ -12,7 +12,7 @@ use automaton::{children_of, target_of};
 use sets::{StateSet, all_in};
 
 // Which way a set grows along a rule: from its children up to its target, or from its target down to its children.
-#[derive(Drop)]
+#[derive(Clone, Copy)]
 pub enum Way {
     Up,
     Down,

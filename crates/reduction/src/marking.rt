@@ -47,7 +47,7 @@ fn same_states(qs: &[u8], rs: &[u8]) -> bool
 }
 
 // Why a rule goes: an equal one stands before it, or one dominates it.
-#[derive(Drop)]
+#[derive(Clone, Copy)]
 pub enum Why {
     Repeated,
     Dominated,

@@ -10,7 +10,7 @@ use records::Refusal;
 
 // The length of the reduced table, the counts of the table and of the reduced one, and the rounds of step 2, which are those of the
 // simulation on what step 1 leaves.
-#[derive(Drop)]
+#[derive(Clone, Copy)]
 pub struct Reduction {
     pub length: usize,
     pub old: Size,
@@ -18,7 +18,7 @@ pub struct Reduction {
     pub rounds: usize,
 }
 
-#[derive(Drop)]
+#[derive(Clone, Copy)]
 pub enum Reduced {
     Table(Reduction),
     Refused(Refusal),

@@ -23,7 +23,7 @@ use refinement::{Relation, simulate};
 use sets::StateSet;
 
 // What steps 1 and 5 leave: the states, and how many rules.
-#[derive(Drop)]
+#[derive(Clone, Copy)]
 pub struct Kept {
     pub states: StateSet,
     pub rules: usize,
@@ -45,7 +45,7 @@ fn keep_grown(start: StateSet, way: Way, rows: &mut [u8], k: usize) -> Kept
 }
 
 // What step 3 leaves: the representatives of final states, and how many rules.
-#[derive(Drop)]
+#[derive(Clone, Copy)]
 pub struct Grouped {
     pub finals: StateSet,
     pub rules: usize,
@@ -86,7 +86,7 @@ fn prune(words: &[u64; 1024], n: usize, rows: &mut [u8], k: usize) -> usize
 }
 
 // How many states are kept, and the final ones among them by their new numbers.
-#[derive(Drop)]
+#[derive(Clone, Copy)]
 pub struct Numbered {
     pub states: usize,
     pub finals: StateSet,
@@ -112,7 +112,7 @@ fn renumber(states: StateSet, finals: StateSet, n: usize, rows: &mut [u8], k: us
 }
 
 // What steps 3 to 6 leave: how many states and rules, and the final states.
-#[derive(Drop)]
+#[derive(Clone, Copy)]
 pub struct Shortened {
     pub states: usize,
     pub rules: usize,
@@ -160,7 +160,7 @@ fn simulate_left(states: StateSet, size: Size, rows: &[u8], words: &mut [u64; 10
 }
 
 // A reduced table in arrays: its counts and final states, and the rounds of step 2.
-#[derive(Drop)]
+#[derive(Clone, Copy)]
 pub struct Short {
     pub size: Size,
     pub finals: StateSet,

@@ -10,7 +10,7 @@ ghost use Rattle.refinement.specs.Inner.{relation_in};
 use automaton::{children_of, symbol_of};
 
 // The relation held flat.
-#[derive(Drop)]
+#[derive(Clone, Copy)]
 pub struct Relation {
     pub words: [u64; 1024],
 }

@@ -10,14 +10,14 @@ use indexing::{FEW_INDEX, INDEX};
 use trees::{Answer, accept_tree};
 
 // How many checks got each answer (document 01: the "gate"). A count stays at 4,294,967,295.
-#[derive(Drop)]
+#[derive(Clone, Copy)]
 pub struct Counts {
     pub accepted: u32,
     pub rejected: u32,
     pub refused: u32,
 }
 
-#[derive(Drop)]
+#[derive(Clone, Copy)]
 pub struct Checked {
     pub counts: Counts,
     pub answer: Answer,

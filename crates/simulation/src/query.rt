@@ -19,14 +19,14 @@ use refinement::{Relation, has_match, has_pair, simulate};
 use sets::StateSet;
 
 // The rounds and the number of pairs, or the refusal.
-#[derive(Drop)]
+#[derive(Clone, Copy)]
 pub enum Related {
     Pairs { rounds: usize, pairs: usize },
     Refused(Refusal),
 }
 
 // Whether one state is simulated by another, or the number of a rule that has no match.
-#[derive(Drop)]
+#[derive(Clone, Copy)]
 pub enum Compared {
     Yes,
     Rule(usize),

@@ -37,14 +37,14 @@ position_at {q} (Memᴰ.tail {x = x} {xs = xs} m) = go (eqb x q) refl (position_
     go true e l = (omega arith, eqb-true x q e)
     go false e l = (omega arith, l.1)
 
-position_rises : {states : List ℕ} → Rising states → {p q : ℕ} → Memᴰ p states → Memᴰ q states → p < q
+position_rises : {p q : ℕ} {states : List ℕ} → Rising states → Memᴰ p states → Memᴰ q states → p < q
     → position states p < position states q
 unfolding position
 position_rises r (Memᴰ.head e) (Memᴰ.head f) l = absurd (omega arith)
-position_rises r {p} {q} (Memᴰ.head {x = x} e) (Memᴰ.tail n) l =
+position_rises {p} {q} r (Memᴰ.head {x = x} e) (Memᴰ.tail n) l =
     rw (eq-eqb x p (sym e), ne_eqb x q (λ (f : x ≡ q). omega arith)) (omega arith)
 position_rises r (Memᴰ.tail m) (Memᴰ.head f) l = let h = rising_above r m in absurd (omega arith)
-position_rises r {p} {q} (Memᴰ.tail {x = x} m) (Memᴰ.tail n) l =
+position_rises {p} {q} r (Memᴰ.tail {x = x} m) (Memᴰ.tail n) l =
     let h = rising_above r m in
     let k = rising_above r n in
     let later = position_rises (rising_rest r) m n l in

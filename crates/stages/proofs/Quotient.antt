@@ -5,7 +5,7 @@ use Prim.Native.Nat.{ℕ, ◌≤◌}
 use native.Mathlib.Omega.{arith}
 use mathlib.Core.Path.{◌≡◌, refl, sym, ap, ◌∙◌}
 use mathlib.Core.List.Memᴰ
-use mathlib.Core.List.{List, ◌∷◌, map, Memᴰ}
+use mathlib.Core.List.{List, ◌∷◌, map, Memᴰ, []}
 use mathlib.Core.Bool.{Bool, true, false, cond}
 use lib.Dec.{eqb}
 use borrow.Author.Tests.{eq-eqb, eqb-true}
@@ -41,10 +41,11 @@ first_found test (Memᴰ.tail {x = x} {xs = xs} m) h = go (test x) refl (first_f
     go true e r = (Memᴰ.head refl, e)
     go false e r = (Memᴰ.tail r.0, r.1)
 
-first_least : (test : ℕ → Bool) {qs : List ℕ} {q : ℕ} → Rising qs → Memᴰ q qs → test q ≡ true → first_of test qs ≤ q
+first_least : (test : ℕ → Bool) {q : ℕ} {qs : List ℕ} → Rising qs → Memᴰ q qs → test q ≡ true → first_of test qs ≤ q
 unfolding first_of
-first_least test rising (Memᴰ.head {x = x} e) h = let passes : test x ≡ true = ap test (sym e) ∙ h in rw passes (omega arith)
-first_least test {q = q} rising (Memᴰ.tail {x = x} {xs = xs} m) h = go (test x) (first_least test (rising_rest rising) m h)
+first_least test {qs = []} rising m h = elim m [ ]
+first_least test {q = q} {qs = x ∷ xs} rising (Memᴰ.head e) h = let passes : test x ≡ true = ap test (sym e) ∙ h in rw passes (omega arith)
+first_least test {q = q} {qs = x ∷ xs} rising (Memᴰ.tail m) h = go (test x) (first_least test (rising_rest rising) m h)
   where
     go : (t : Bool) → first_of test xs ≤ q → cond t x (first_of test xs) ≤ q
     go true l = let above = rising_above rising m in omega arith

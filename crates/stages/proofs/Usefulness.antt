@@ -61,6 +61,7 @@ occurs_root (at q f rs) p e = inl e
 
 pub occurs_roots : (rs : Runs) (p : ℕ) → Memᴰ p (roots rs) → OccursIn p rs
 unfolding OccursIn roots
+occurs_roots none p x' = elim x' [ ]
 occurs_roots (also r rs) p (Memᴰ.head e) = inl (occurs_root r p e)
 occurs_roots (also r rs) p (Memᴰ.tail m) = inr (occurs_roots rs p m)
 

@@ -27,7 +27,7 @@ use records::{Opened, Refusal, body, open};
 use sets::{StateSet, entry, put_entry};
 
 // Of a tree that is not accepted, a subtree by the number of its top node in postfix order, counted from 0, and by how many nodes it has.
-#[derive(Drop)]
+#[derive(Clone, Copy)]
 pub enum Answer {
     Accepted,
     Rejected { node: usize, size: usize },
@@ -35,7 +35,7 @@ pub enum Answer {
 }
 
 // The first node whose tree belongs to no state, and how many nodes that tree has.
-#[derive(Drop)]
+#[derive(Clone, Copy)]
 pub enum First {
     Nowhere,
     At { node: usize, size: usize },
@@ -43,7 +43,7 @@ pub enum First {
 
 // What the walk holds between nodes, beside the stack: its height, how many nodes there were, and the first of them whose tree belongs to no state,
 // with the size of that tree.
-#[derive(Drop)]
+#[derive(Clone, Copy)]
 pub struct Held {
     pub height: usize,
     pub nodes: usize,
@@ -51,7 +51,7 @@ pub struct Held {
 }
 
 // What is held next, or the refusal.
-#[derive(Drop)]
+#[derive(Clone, Copy)]
 pub enum Stepped {
     On(Held),
     Refused(Refusal),
