@@ -103,7 +103,7 @@ module _ (A : Automaton) (wf : WellFormed A) where
       let children : reverse (take r (map (held A) trees)) ≡ map (held A) (reverse (take r trees)) = rw (← map_take, ← map_reverse) in
       let nodes : suc (length (read_trees trees)) ≡ length (read_trees trees ++ (node f (trees_in (reverse (take r trees))) ∷ [])) =
       omega (arith, length-append (read_trees trees) (node f (trees_in (reverse (take r trees))) ∷ [])) in
-      rw (children, joined_held, read_node, first_more, zero-add, map_drop, nodes)
+      rw (children, joined_held, read_node, first_more, zero-add, map_drop (held A) r trees, nodes)
 
   advance_walk : (trees : List Tree) (f : ℕ) → advance A (walk_of A trees) f ≡ map_read (walk_of A) (push A.ranks trees f)
   unfolding advance push walk_of ◌>>=◌ map_read
