@@ -1,8 +1,8 @@
--- Rules judged one after the other, what stands behind the last one, and the counts of a table that passes: what the proofs of the functions that
--- judge and decode share.
+-- A record as the code judges it, rules judged one after the other, what stands behind the last one, and the counts of a table that passes: what
+-- the proofs of the functions that judge and decode share.
 use Prim.Native.Nat.{ℕ, zero, suc, ◌-◌, ◌≤◌, ◌<◌}
 use native.Mathlib.Omega.{arith}
-use mathlib.Core.Path.{◌≡◌, refl, ap}
+use mathlib.Core.Path.{◌≡◌, refl, sym, ap, ◌∙◌}
 use mathlib.Core.List.{List, [], ◌∷◌}
 use lib.ListN.{length, drop, length-take}
 use Rattle.records.specs.Record.{opened, body_of}
@@ -12,7 +12,10 @@ use Rattle.records.proofs.Reading.{map_found}
 use Rattle.automaton.specs.Automaton.{Rule}
 use Rattle.automaton.specs.Decoded.{sized}
 use Rattle.automaton.specs.Table.{due, judge_record, rule_in, judge_rule, judge_rules, judge_from_ranks}
-use Rattle.automaton.specs.Inner.{passing}
+use Rattle.automaton.specs.Inner.{passing, place_of}
+use Rattle.automaton.specs.declared.table.Place.{Place}
+use Rattle.automaton.specs.declared.table.Place.TheVariants.{At, Refused}
+use Rattle.records.specs.declared.refusal.Refusal.{Refusal}
 use Rattle.automaton.specs.declared.table.Size.{Size}
 use Rattle.automaton.proofs.Checked.{record_found, rule_checked, ranks_sized}
 
@@ -26,6 +29,18 @@ unfolding passing sized map_read
 sized_passes size b h =
     let e = (map_found _ (judge_from_ranks size b) h).1 in
     rw e (ap found (ranks_sized size b e))
+
+-- A record as the code judges it: none of the kind opens, or its body decides.
+module _ (kind missing : ℕ) (judge_body : List ℕ → Read (Unit {0})) (b : List ℕ) where
+  pub none_due : {p : Place} {cause : Refusal} → p ≡ Refused cause → place_of p ≡ due kind missing (opened b)
+      → place_of p ≡ judge_record kind missing judge_body b
+  unfolding place_of judge_record ◌>>=◌
+  none_due {p} is e = rw is (rw (sym e ∙ ap place_of is))
+
+  pub body_decides : (end : ℕ) {body : List ℕ} {judged : Read (Unit {0})} {place : Read ℕ} → place_of (At end) ≡ due kind missing (opened b)
+      → body ≡ body_of b → judged ≡ judge_body body → place ≡ judged >> found end → place ≡ judge_record kind missing judge_body b
+  unfolding place_of judge_record ◌>>=◌
+  body_decides end e is j p = rw (p, j, is, ← e)
 
 -- The next rule, and the rules after it.
 module _ (n : ℕ) (ranks b : List ℕ) where
