@@ -7,12 +7,11 @@ pub loop-j-init : goal.loop-j-init
 loop-j-init c = (search rules, search rules, over_nil _ _)
 
 pub loop-j-preserved : goal.loop-j-preserved
-loop-j-preserved c =
-    (
-      search rules,
-      simp length-set (search rules),
-      rw c.loop-j.invariant.2 (over_copy _ _ c.args.src.now c.loop-j.j (omega arith) (omega arith)),
-    )
+loop-j-preserved c = (
+  search rules,
+  simp length-set (search rules),
+  rw c.loop-j.invariant.2 (over_copy _ _ c.args.src.now c.loop-j.j (omega arith) (omega arith)),
+)
 
 pub returns : goal.returns
 returns c =

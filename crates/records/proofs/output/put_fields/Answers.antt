@@ -10,12 +10,11 @@ unfolding fields
 loop-j-init c = (search rules, search rules, over_nil _ _)
 
 pub loop-j-preserved : goal.loop-j-preserved
-loop-j-preserved c =
-    (
-      search rules,
-      search rules,
-      rw (c.put2.ensures, c.loop-j.invariant.2) (over_field _ _ c.args.src.now c.loop-j.j (omega arith) (omega arith)),
-    )
+loop-j-preserved c = (
+  search rules,
+  search rules,
+  rw (c.put2.ensures, c.loop-j.invariant.2) (over_field _ _ c.args.src.now c.loop-j.j (omega arith) (omega arith)),
+)
 
 pub returns : goal.returns
 returns c =
