@@ -1,4 +1,4 @@
-use Rattle.std.proofs.Common.{arith, rules, ◌≡◌, length}
+use Rattle.std.proofs.Common.{arith, rules, ◌≡◌}
 use lib.ListN.{length-set}
 use Rattle.lists.proofs.Overwriting.{over_nil, over_copy}
 use Rattle.records.proofs.output.put_bytes.Goals as goal

@@ -1,4 +1,4 @@
-use Rattle.std.proofs.Common.{arith, rules, sym, ◌∙◌}
+use Rattle.std.proofs.Common.{rules, sym, ◌∙◌}
 use Rattle.lists.proofs.Search.{all_stop, all_go_on, all_end}
 use Rattle.sets.proofs.states.all_in.Goals as goal
 

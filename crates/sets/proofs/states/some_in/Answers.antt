@@ -1,4 +1,4 @@
-use Rattle.std.proofs.Common.{arith, rules, sym, ◌∙◌}
+use Rattle.std.proofs.Common.{rules, sym, ◌∙◌}
 use Rattle.lists.proofs.Search.{any_stop, any_go_on, any_end}
 use Rattle.sets.proofs.states.some_in.Goals as goal
 
