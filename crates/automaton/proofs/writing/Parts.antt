@@ -18,11 +18,11 @@ use Rattle.records.proofs.Records.{length_record}
 use Rattle.records.proofs.Buffers.{fields_append}
 use Rattle.automaton.specs.Automaton.{Rule}
 use Rattle.automaton.specs.Table.{encode_rule, encode_rules, encode}
-use Rattle.automaton.specs.Row.{rule_at, rules_in}
+use Rattle.automaton.specs.Row.{rule_at, rules_in, Row}
 use Rattle.automaton.specs.Decoded.{automaton_in}
 use Rattle.automaton.specs.declared.table.Size.{Size}
-use Rattle.automaton.proofs.Encoding.{length_encode}
-use Rattle.automaton.proofs.Rows.{rules_next, length_rules_in}
+use Rattle.automaton.proofs.Encoding.{length_encode, length_rule}
+use Rattle.automaton.proofs.Rows.{rules_next, length_rules_in, row_children_few}
 
 -- States, turn by turn.
 
@@ -51,6 +51,11 @@ over_rule u out at fits symbol target children e f g a b c d p q r s =
     (over_then out at _ a (at + 6) _ b (rw (g, sized) at p) (rw e at q) (omega arith) (omega arith))
     (rw f at r) (omega arith) (omega arith))
     (rw g at s) (omega arith) (omega arith)
+
+-- The length of a rule's record in the number of its row's children, of which there are at most eight.
+pub rule_size : (rows : List ℕ) (i : ℕ) (children : List ℕ) → Row rows i → children ≡ (rule_at rows i).children
+    → (length children ≤ 8) × (length (encode_rule (rule_at rows i)) ≡ 10 + 2 * length children)
+rule_size rows i children r e = rw e (row_children_few r, length_rule (rule_at rows i))
 
 -- Rules, turn by turn.
 

@@ -1,0 +1,54 @@
+use Rattle.std.proofs.Common.{◌∙◌, sym}
+use Rattle.lists.proofs.Arrays.{part_to_end}
+use Rattle.records.specs.Read.{map_read}
+use Rattle.records.proofs.Reading.{refused≢found}
+use Rattle.automaton.specs.Inner.{passing, place_of, verdict_of}
+use Rattle.automaton.proofs.Checked.{record_found, record_within}
+use Rattle.automaton.proofs.decoding.Filling.{rule_body, none_reached, reached_refused, next_room, next_reached}
+use Rattle.automaton.proofs.decoding.Filling.{end_reached, all_reached}
+use Rattle.automaton.proofs.decoding.decode_rules.Goals as goal
+
+pub loop-i-init : goal.loop-i-init
+loop-i-init c = none_reached _ _ _ _ _
+
+pub returns-in-Refused : goal.returns-in-Refused
+unfolding place_of verdict_of passing map_read
+returns-in-Refused c =
+    let stop = reached_refused _ _ _ _ _ _ _ _ c.loop-i.invariant c.loop-i-test.true (sym c.in-Refused.ensures) in
+    record { result_value = rw stop; rows = λ us h. absurd (refused≢found (sym stop ∙ h)) }
+
+pub put_row-requires : goal.put_row-requires
+unfolding place_of
+put_row-requires c =
+    let next = sym c.in-At.ensures in
+    let r = c.requires in
+    record {
+      rule_body =
+          rw c.body.ensures
+          (rule_body _ _ _ r.n_bound.0 r.ranks_len_bound.0 r.ranks_len_bound.1 (record_found 4 7 _ _ next).passes);
+      width_in_bounds = next_room _ _ _ _ _ _ _ _ c.loop-i.invariant c.loop-i-test.true r.n_bound.1 next r.rows_room;
+    }
+
+pub slice_bounds-rest-count : goal.slice_bounds-rest-count
+unfolding place_of
+slice_bounds-rest-count c = record_within 4 7 _ _ (sym c.in-At.ensures)
+
+pub slice_bounds-rest-start : goal.slice_bounds-rest-start
+unfolding place_of
+slice_bounds-rest-start c = record_within 4 7 _ _ (sym c.in-At.ensures)
+
+pub loop-i-preserved : goal.loop-i-preserved
+unfolding place_of
+loop-i-preserved c =
+    rw part_to_end
+    (next_reached _ _ _ _ _ _ _ _ c.loop-i.invariant c.loop-i-test.true c.requires.n_bound.1 (sym c.in-At.ensures) _
+    (rw c.body.ensures at c.put_row.ensures))
+
+pub returns : goal.returns
+returns c =
+    let reached = c.loop-i.invariant in
+    let last = c.loop-i-test.false in
+    record {
+      result_value = c.judge_end.ensures _ _ ∙ sym (end_reached _ _ _ _ _ _ _ _ reached last);
+      rows = all_reached _ _ _ _ _ _ _ _ reached last;
+    }
