@@ -1,22 +1,14 @@
 -- A bit of 1 is the store of `with_state`; a bit of 0 stores what stood there.
-use Prim.Native.Nat.{ℕ, ◌*◌, ◌/◌, ◌%◌, ◌^◌, ◌≤◌, ◌<◌}
-use mathlib.Core.Path.{◌≡◌, refl, ap}
-use mathlib.Core.List.{List}
-use mathlib.Core.Bool.{Bool, true, false, cond}
+use Rattle.std.proofs.Common.{ℕ, ◌*◌, ◌/◌, ◌%◌, ◌^◌, ◌≤◌, ◌<◌, ◌≡◌, refl, ap, List, Bool, true, false, cond, length, get_or, set, eqb, bit_or, arith}
 use native.Mathlib.Nat.{zero-mul}
-use native.Mathlib.Omega.{arith}
 use native.Mathlib.Decide.{ℕ_discrete}
-use lib.ListN.{length, get_or, set}
 use lib.Seq.{set-get_or, get_or-set_same, get_or-set_other}
-use lib.Dec.{eqb}
-use lib.Bits.{bit_or, or_zero_r}
-use borrow.Author.Rules.{rules}
+use lib.Bits.{or_zero_r}
 use borrow.Author.Tests.{eqb-true, eqb-false, eq-eqb, ne_eqb}
 use Rattle.sets.specs.Set.{words, replaced, with_state}
 use Rattle.sets.proofs.StateSets.{get_d_words, one_bit}
 use Rattle.trees.specs.Inner.{gathered}
-use Rattle.trees.proofs.evaluation.add_if.Tie as tie
-use Rattle.trees.proofs.evaluation.add_if.Statement.{statement}
+use Rattle.trees.proofs.evaluation.add_if.Goals as goal
 
 -- A store at every other place.
 gathered_set : (ws : List ℕ) (i w : ℕ) → length ws ≡ 8 → i < 4 → gathered (set ws (2 * i) w) ≡ replaced (gathered ws) i w
@@ -46,13 +38,5 @@ module _ (ws : List ℕ) (q bit : ℕ) (eight : length ws ≡ 8) (low : q < 256)
       let none : bit ≡ 0 = omega arith in
       rw (none, zero-mul, or_zero_r) (ap gathered (set-get_or ws (2 * (q / 64)) 0))
 
-returns : tie.Need-returns
-returns c =
-    let s = c.before in
-    added _ s.args.q s.args.bit s.requires.0 (omega arith) s.requires.1 _ refl
-
-pub add_if_spec : {M : Type 1} → statement M
-add_if_spec =
-    tie.close
-    (tie.spec (λ c. search rules) (λ c. search rules) (λ c. search rules) (λ c. search rules) (λ c. search rules)
-    (λ c. search rules) (λ c. search rules) (λ c. search rules) (λ c. search rules) returns)
+pub returns : goal.returns
+returns c = added _ c.args.q c.args.bit c.requires.0 (omega arith) c.requires.1 _ refl
