@@ -1,7 +1,7 @@
 -- The relation that rows of words hold, pair by pair: what it is from what the rows have. The rounds, the queries and the calls that read a
 -- relation use it.
 use Prim.Native.Nat.{ℕ, zero, suc, ◌+◌, ◌*◌, ◌/◌, ◌%◌, ◌^◌, ◌<◌}
-use mathlib.Core.Path.{◌≡◌, refl, sym, ap, ◌∙◌}
+use mathlib.Core.Path.{◌≡◌, refl, sym, ◌∙◌}
 use mathlib.Core.List.{List, [], ◌∷◌, ◌++◌, map, Memᴰ}
 use mathlib.Core.Bool.{Bool, true, false, cond, ◌&&◌, false≢true}
 use native.Mathlib.Decide.{dec_lt}
