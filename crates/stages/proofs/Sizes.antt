@@ -1,12 +1,12 @@
 -- A reduced automaton is well-formed and encodes to no more bytes: each step keeps a part of the states, final states and rules or renames.
 -- For the reducing call, which writes it where the table stood, and for `Agreement` and demand 3.
-use Prim.Native.Nat.{ℕ, zero, suc, ◌+◌, ◌*◌, ◌≤◌, ◌<◌}
+use Prim.Native.Nat.{ℕ, zero, suc, ◌+◌, ◌≤◌, ◌<◌}
 use native.Mathlib.Omega.{arith}
 use mathlib.Core.Path.{◌≡◌, refl, sym, ap, ◌∙◌}
 use mathlib.Core.List.Memᴰ
 use mathlib.Core.List.{List, [], ◌∷◌, map, Memᴰ}
 use mathlib.Core.Bool.{Bool, true, false, cond, not}
-use lib.ListN.{length, get_or, length-map, length-append}
+use lib.ListN.{length, get_or, length-map}
 use lib.Dec.{eqb}
 use borrow.Author.Tests.{eq-eqb, eqb-true, ne_eqb}
 use Rattle.lists.specs.Lists.{Rising, from, keep, among}
@@ -15,8 +15,6 @@ use Rattle.lists.proofs.Keeping.{keep_out, keep_all, keep_shorter}
 use Rattle.lists.proofs.Booleans.{not_true_out}
 use Rattle.lists.proofs.Elements.{all_member, all_mapped}
 use Rattle.lists.proofs.Rising.{rising_rest, rising_above, rising_keep}
-use Rattle.records.proofs.Fields.{length_fields}
-use Rattle.records.proofs.Records.{length_record_more}
 use Rattle.automaton.specs.Automaton.{Rule, renamed, Automaton, WellFormed, WellFormedRule}
 use Rattle.automaton.specs.Table.{encode_rules, encode}
 use Rattle.automaton.proofs.Encoding.{length_rules, length_encode}
