@@ -2,8 +2,8 @@
 -- From the laws of lists and sets alone, for EachStep and AllSteps.
 use Prim.Native.Nat.{ℕ, ◌≤◌, ◌<◌}
 use native.Mathlib.Omega.{arith}
-use mathlib.Core.Path.{◌≡◌, refl, sym, ap, ap₂, ◌∙◌}
-use mathlib.Core.List.{List, [], ◌∷◌, map, Memᴰ}
+use mathlib.Core.Path.{◌≡◌, sym, ap, ◌∙◌}
+use mathlib.Core.List.{List, map, Memᴰ}
 use mathlib.Core.Bool.{Bool}
 use Rattle.lists.specs.Lists.{Rising, from, keep, among}
 use Rattle.lists.proofs.Mapping.{map_agree}
