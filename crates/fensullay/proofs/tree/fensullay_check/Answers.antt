@@ -1,0 +1,60 @@
+-- `fensullay::tree::fensullay_check` meets its contract.
+use Rattle.std.proofs.Common.{◌≡◌, ◌≤◌, ◌∙◌, List, ◌++◌, ℕ, length, drop, refl, sym, ap}
+use mathlib.Core.Logic.{inl, inr}
+use Rattle.records.specs.Read.{Read}
+use Rattle.trees.specs.Subtree.{Finding}
+use Rattle.trees.specs.Answers.{acceptance_of, finding_of}
+use Rattle.trees.specs.declared.evaluation.Answer.{Answer}
+use Rattle.simulation.specs.Check.{Checks}
+use Rattle.simulation.specs.declared.checking.Counts.{Counts}
+use Rattle.simulation.specs.declared.checking.Checked.{Checked}
+use Rattle.fensullay.specs.Exports.{yes_no, counts_in, counts_numbers, subtree_after, checking}
+use Rattle.fensullay.proofs.Checking.{check_roomy, check_few}
+use Rattle.fensullay.proofs.Exported.{Gives, found_with}
+use Rattle.fensullay.proofs.tree.fensullay_check.Goals as goal
+
+pub returns-then-counts-lt3 : goal.returns-then-counts-lt3
+returns-then-counts-lt3 c =
+    let e = check_few _ _ _ _ (inl c.if-counts-lt3.true) in
+    record { value = e.0; counts_after = e.1.0; numbers_after = e.1.1 }
+
+pub returns-then-numbers-lt2 : goal.returns-then-numbers-lt2
+returns-then-numbers-lt2 c =
+    let e = check_few _ _ _ _ (inr c.if-numbers-lt2.true) in
+    record { value = e.0; counts_after = e.1.0; numbers_after = e.1.1 }
+
+-- After the counts are written, the number returned and the subtree are those of the check's answer.
+answered : (counts table tree numbers : List ℕ) (r : Checked) → 3 ≤ length counts → 2 ≤ length numbers
+    → Checks (counts_in counts) table tree r → {counts' : List ℕ} → counts' ≡ counts_numbers r.counts ++ drop 3 counts
+    → {answer : Answer} {code : ℕ} {numbers' : List ℕ} → r.answer ≡ answer → code ≡ yes_no (acceptance_of answer)
+    → numbers' ≡ subtree_after (finding_of answer) numbers
+    → Gives (checking counts table tree numbers) code counts' numbers'
+unfolding counts_numbers
+answered counts table tree numbers r enough room checks put told is named =
+    let put = put ∙ ap (λ (c : Counts). counts_numbers c ++ drop 3 counts) checks.counts_after in
+    let code = is ∙ ap yes_no (ap acceptance_of (sym told) ∙ checks.answer) in
+    let subtree = named ∙ ap (λ (x : Read Finding). subtree_after x numbers) (ap finding_of (sym told) ∙ checks.subtree) in
+    let e = found_with yes_no _ _ _ _ _ enough refl put subtree in
+    rw (check_roomy counts table tree numbers room) (code ∙ e.0, e.1)
+
+pub returns-in-Accepted : goal.returns-in-Accepted
+unfolding counts_in yes_no acceptance_of finding_of subtree_after
+returns-in-Accepted c =
+    let e = answered _ _ _ _ _ c.if-counts-lt3.false c.if-numbers-lt2.false c.check-checked.ensures c.put_counts.ensures c.in-Accepted.is refl refl in
+    record { value = e.0; counts_after = e.1.0; numbers_after = e.1.1 }
+
+pub returns-in-Rejected : goal.returns-in-Rejected
+unfolding counts_in yes_no acceptance_of finding_of subtree_after
+returns-in-Rejected c =
+    let e =
+    answered _ _ _ _ _ c.if-counts-lt3.false c.if-numbers-lt2.false c.check-checked.ensures c.put_counts.ensures c.in-Rejected.is refl
+    c.put_all.ensures in
+    record { value = e.0; counts_after = e.1.0; numbers_after = e.1.1 }
+
+pub returns-in-Refused : goal.returns-in-Refused
+unfolding counts_in yes_no acceptance_of finding_of subtree_after
+returns-in-Refused c =
+    let e =
+    answered _ _ _ _ _ c.if-counts-lt3.false c.if-numbers-lt2.false c.check-checked.ensures c.put_counts.ensures c.in-Refused.is
+    c.number.ensures refl in
+    record { value = e.0; counts_after = e.1.0; numbers_after = e.1.1 }
