@@ -1,25 +1,28 @@
-// What the programs of worked examples share: the fields of a case from standard input, a checksum, and output.
+// What the programs of worked examples share: the fields of a case from a reader, a checksum, and output to a writer.
 #![tactic(auto)]
 
-ghost use Rattle.std.specs.Prelude.{◌≤◌, ◌<◌};
-ghost use Rattle.io.specs.Counts.{IsPrefixLen};
+ghost use Rattle.std.specs.Prelude.{◌≤◌, ◌<◌, IfOk};
+ghost use Rattle.cases.specs.Counts.{IsPrefixLen};
+
+use std::io;
+use std::io::{Read, Write};
 
 // What `number` returns where the input has ended: more than any number.
 pub const ENDED: usize = 4294967296;
 
 // The next number of the input, of `width` bytes, one to four, little-endian; ENDED where the input has ended.
-pub fn number(width: usize) -> usize
-    ensures { result ≤ 4294967296 }
+pub fn number<R: Read>(input: &mut R, width: usize) -> io::Result<usize>
+    ensures { IfOk result (λ n. n ≤ 4294967296) }
 {
     let mut b = [0u8; 4];
     if width > 4 {
-        return ENDED;
+        return Ok(ENDED);
     }
-    let got = io::read_full(0, &mut b[..width]);
+    let got = read_full(input, &mut b[..width])?;
     if got < width {
-        return ENDED;
+        return Ok(ENDED);
     }
-    wide(b[0]) + 256 * wide(b[1]) + 65536 * wide(b[2]) + 16777216 * wide(b[3])
+    Ok(wide(b[0]) + 256 * wide(b[1]) + 65536 * wide(b[2]) + 16777216 * wide(b[3]))
 }
 
 fn wide(x: u8) -> usize
@@ -28,8 +31,23 @@ fn wide(x: u8) -> usize
     x as usize
 }
 
-// Whether a field was there whole, and how many bytes it has: 0 where it was not.
-#[derive(Drop)]
+// Reads until `buf` is full or the input ends, and returns how many bytes it put at the start of `buf`.
+pub fn read_full<R: Read>(input: &mut R, buf: &mut [u8]) -> io::Result<usize>
+    ensures { IfOk result (λ n. IsPrefixLen n buf.new) }
+{
+    let mut done = 0;
+    while done < buf.len() {
+        let n = input.read(&mut buf[done..])?;
+        if n == 0 {
+            break;
+        }
+        done += n;
+    }
+    Ok(done)
+}
+
+// Whether a field was there whole, and how many of its bytes were.
+#[derive(Clone, Copy)]
 pub struct Field {
     pub there: bool,
     pub length: usize,
@@ -37,21 +55,21 @@ pub struct Field {
 
 // The next field of the input, a number of `width` bytes and then as many bytes, at the start of `buf`. It is not there where the
 // input has ended or `buf` is too short.
-pub fn next_field(width: usize, buf: &mut [u8]) -> Field
-    ensures { IsPrefixLen result.length buf.new }
+pub fn next_field<R: Read>(input: &mut R, width: usize, buf: &mut [u8]) -> io::Result<Field>
+    ensures { IfOk result (λ field. IsPrefixLen field.length buf.new) }
 {
-    let n = number(width);
+    let n = number(input, width)?;
     if n > buf.len() {
-        return Field {
+        return Ok(Field {
             there: false,
             length: 0,
-        };
+        });
     }
-    let got = io::read_full(0, &mut buf[..n]);
-    Field {
+    let got = read_full(input, &mut buf[..n])?;
+    Ok(Field {
         there: got == n,
         length: got,
-    }
+    })
 }
 
 // The checksum `sum` with a byte more.
@@ -68,35 +86,33 @@ pub fn add_all(sum: u64, b: &[u8]) -> u64
     ensures { result < 4294967291 }
 {
     let mut s = sum;
-    for i in 0..b.len() {
-        s = add(s, b[i]);
+    for x in b {
+        s = add(s, *x);
     }
     s
 }
 
-pub fn write_word(b: &[u8]) {
-    io::write_all(1, b);
+pub fn write_word<W: Write>(out: &mut W, b: &[u8]) -> io::Result<()> {
+    out.write_all(b)
 }
 
 // A space and a number.
-pub fn write_number(n: usize) {
-    io::write_all(1, b" ");
-    io::print_decimal(1, n as u64);
+pub fn write_number<W: Write>(out: &mut W, n: usize) -> io::Result<()> {
+    write!(out, " {n}")
 }
 
-pub fn end_line() {
-    io::write_all(1, b"\n");
+pub fn end_line<W: Write>(out: &mut W) -> io::Result<()> {
+    out.write_all(b"\n")
 }
 
 // The next case's name, and the line that names it: false where the input has ended.
-pub fn next_case() -> bool {
-    let mut name = io::buffer();
-    let f = next_field(1, &mut name);
-    let n = f.length;
+pub fn next_case<R: Read, W: Write>(input: &mut R, out: &mut W) -> io::Result<bool> {
+    let mut name = [0u8; 4096];
+    let f = next_field(input, 1, &mut name)?;
     if f.there {
-        write_word(b"case ");
-        write_word(&name[..n]);
-        end_line();
+        write_word(out, b"case ")?;
+        write_word(out, &name[..f.length])?;
+        end_line(out)?;
     }
-    f.there
+    Ok(f.there)
 }
