@@ -6,75 +6,78 @@
 use automaton::number;
 use cases::{end_line, write_number, write_word};
 use simulation::{Answer, Counts};
+use std::io;
+use std::io::{Read, Write};
 
-fn main() {
-    let mut left: usize = 1000000;
-    while left > 0 {
-        if !one() {
-            return;
+fn main(rt: HostRuntime) -> io::Result<()> {
+    let mut input = rt.stdin();
+    let mut out = rt.stdout();
+    for _ in 0..1000000 {
+        if !one(&mut input, &mut out)? {
+            break;
         }
-        left -= 1;
     }
+    Ok(())
 }
 
 // The next case: false where the input has ended.
-fn one() -> bool {
-    if !cases::next_case() {
-        return false;
+fn one<R: Read, W: Write>(input: &mut R, out: &mut W) -> io::Result<bool> {
+    if !cases::next_case(input, out)? {
+        return Ok(false);
     }
-    let mut table = io::large_buffer();
-    let table_field = cases::next_field(4, &mut table);
-    let n = table_field.length;
+    let mut table = [0u8; 65536];
+    let table_field = cases::next_field(input, 4, &mut table)?;
     if !table_field.there {
-        return false;
+        return Ok(false);
     }
-    let mut tree = io::large_buffer();
-    let tree_field = cases::next_field(4, &mut tree);
-    let k = tree_field.length;
+    let mut tree = [0u8; 65536];
+    let tree_field = cases::next_field(input, 4, &mut tree)?;
     if !tree_field.there {
-        return false;
+        return Ok(false);
     }
-    report(counts(), &table[..n], &tree[..k])
+    let before = counts(input)?;
+    report(
+        out,
+        before,
+        &table[..table_field.length],
+        &tree[..tree_field.length],
+    )?;
+    Ok(true)
 }
 
-fn counts() -> Counts {
-    Counts {
-        accepted: count(),
-        rejected: count(),
-        refused: count(),
-    }
+fn counts<R: Read>(input: &mut R) -> io::Result<Counts> {
+    Ok(Counts {
+        accepted: count(input)?,
+        rejected: count(input)?,
+        refused: count(input)?,
+    })
 }
 
 // The next count; 0 where the input has ended.
-fn count() -> u32 {
-    let n = cases::number(4);
-    if n > 4294967295 {
-        return 0;
-    }
-    n as u32
+fn count<R: Read>(input: &mut R) -> io::Result<u32> {
+    let n = cases::number(input, 4)?;
+    Ok(u32::try_from(n).unwrap_or(0))
 }
 
-fn report(counts: Counts, table: &[u8], tree: &[u8]) -> bool {
+fn report<W: Write>(out: &mut W, counts: Counts, table: &[u8], tree: &[u8]) -> io::Result<()> {
     let checked = simulation::check(counts, table, tree);
-    let answer = checked.answer;
-    match answer {
-        Answer::Accepted => write_word(b"accepted"),
+    match checked.answer {
+        Answer::Accepted => write_word(out, b"accepted")?,
         Answer::Rejected { node, size } => {
-            write_word(b"rejected");
-            write_number(node);
-            write_number(size);
+            write_word(out, b"rejected")?;
+            write_number(out, node)?;
+            write_number(out, size)?;
         }
         Answer::Refused(cause) => {
-            write_word(b"refused");
-            write_number(number(cause) as usize);
+            write_word(out, b"refused")?;
+            write_number(out, number(cause) as usize)?;
         }
     }
-    end_line();
+    end_line(out)?;
     let after = checked.counts;
-    write_word(b"counts");
-    write_number(after.accepted as usize);
-    write_number(after.rejected as usize);
-    write_number(after.refused as usize);
-    end_line();
-    true
+    write_word(out, b"counts")?;
+    write_number(out, after.accepted as usize)?;
+    write_number(out, after.rejected as usize)?;
+    write_number(out, after.refused as usize)?;
+    end_line(out)
 }

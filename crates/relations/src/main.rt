@@ -8,51 +8,56 @@ ghost use Rattle.std.specs.Prelude.{◌≡◌, length};
 use automaton::number;
 use cases::{end_line, write_number, write_word};
 use simulation::{Compared, Related};
+use std::io;
+use std::io::{Read, Write};
 
-fn main() {
-    let mut left: usize = 1000000;
-    while left > 0 {
-        if !one() {
-            return;
+fn main(rt: HostRuntime) -> io::Result<()> {
+    let mut input = rt.stdin();
+    let mut out = rt.stdout();
+    for _ in 0..1000000 {
+        if !one(&mut input, &mut out)? {
+            break;
         }
-        left -= 1;
     }
+    Ok(())
 }
 
 // The next case: false where the input has ended.
-fn one() -> bool {
-    if !cases::next_case() {
-        return false;
+fn one<R: Read, W: Write>(input: &mut R, out: &mut W) -> io::Result<bool> {
+    if !cases::next_case(input, out)? {
+        return Ok(false);
     }
-    let mut table = io::large_buffer();
-    let table_field = cases::next_field(4, &mut table);
-    let n = table_field.length;
-    if !table_field.there {
-        return false;
+    let mut table = [0u8; 65536];
+    let field = cases::next_field(input, 4, &mut table)?;
+    if !field.there {
+        return Ok(false);
     }
-    relation(&table[..n], cases::number(4));
-    compare_all(&table[..n], cases::number(2))
+    let t = &table[..field.length];
+    let room = cases::number(input, 4)?;
+    relation(out, t, room)?;
+    let pairs = cases::number(input, 2)?;
+    compare_all(input, out, t, pairs)
 }
 
-fn relation(t: &[u8], room: usize) {
+fn relation<W: Write>(out: &mut W, t: &[u8], room: usize) -> io::Result<()> {
     if room > 8300 {
-        return;
+        return Ok(());
     }
     let mut space = filled();
-    let out = &mut space[..room];
-    match simulation::relate(t, out) {
+    let pairs_out = &mut space[..room];
+    match simulation::relate(t, pairs_out) {
         Related::Pairs { rounds, pairs } => {
-            write_word(b"relation");
-            write_number(rounds);
-            write_number(pairs);
+            write_word(out, b"relation")?;
+            write_number(out, rounds)?;
+            write_number(out, pairs)?;
         }
         Related::Refused(cause) => {
-            write_word(b"refused");
-            write_number(number(cause) as usize);
+            write_word(out, b"refused")?;
+            write_number(out, number(cause) as usize)?;
         }
     }
-    write_number(cases::add_all(0, out) as usize);
-    end_line();
+    write_number(out, cases::add_all(0, pairs_out) as usize)?;
+    end_line(out)
 }
 
 fn filled() -> [u8; 8300]
@@ -61,32 +66,38 @@ fn filled() -> [u8; 8300]
     [170; 8300]
 }
 
-fn compare_all(t: &[u8], pairs: usize) -> bool {
+// Each pair of states: false where the input has ended.
+fn compare_all<R: Read, W: Write>(
+    input: &mut R,
+    out: &mut W,
+    t: &[u8],
+    pairs: usize,
+) -> io::Result<bool> {
     if pairs > 65535 {
-        return false;
+        return Ok(false);
     }
     for _ in 0..pairs {
-        let q = cases::number(2);
-        let r = cases::number(2);
-        compare(t, q, r);
+        let q = cases::number(input, 2)?;
+        let r = cases::number(input, 2)?;
+        compare(out, t, q, r)?;
     }
-    true
+    Ok(true)
 }
 
-fn compare(t: &[u8], q: usize, r: usize) {
-    write_word(b"pair");
-    write_number(q);
-    write_number(r);
+fn compare<W: Write>(out: &mut W, t: &[u8], q: usize, r: usize) -> io::Result<()> {
+    write_word(out, b"pair")?;
+    write_number(out, q)?;
+    write_number(out, r)?;
     match simulation::compare(t, q, r) {
-        Compared::Yes => write_word(b" yes"),
+        Compared::Yes => write_word(out, b" yes")?,
         Compared::Rule(i) => {
-            write_word(b" rule");
-            write_number(i);
+            write_word(out, b" rule")?;
+            write_number(out, i)?;
         }
         Compared::Refused(cause) => {
-            write_word(b" refused");
-            write_number(number(cause) as usize);
+            write_word(out, b" refused")?;
+            write_number(out, number(cause) as usize)?;
         }
     }
-    end_line();
+    end_line(out)
 }

@@ -1,10 +1,13 @@
 // Writes the report on the table of standard input, of which it reads the first 27,417 bytes.
 #![tactic(auto)]
 
-fn main() {
-    let mut input = [0u8; 27417];
-    let n = io::read_full(0, &mut input);
+use std::io;
+use std::io::Write;
+
+fn main(rt: HostRuntime) -> io::Result<()> {
+    let mut table = [0u8; 27417];
+    let n = cases::read_full(&mut rt.stdin(), &mut table)?;
     let mut lines = [0u8; 64];
-    let end = reporting::report(&input[..n], &mut lines);
-    io::write_all(1, &lines[..end]);
+    let end = reporting::report(&table[..n], &mut lines);
+    rt.stdout().write_all(&lines[..end])
 }

@@ -4,27 +4,30 @@
 
 mod case;
 
-fn main() {
-    let mut left: usize = 1000000;
-    while left > 0 {
-        if !one() {
-            return;
+use std::io;
+use std::io::{Read, Write};
+
+fn main(rt: HostRuntime) -> io::Result<()> {
+    let mut input = rt.stdin();
+    let mut out = rt.stdout();
+    for _ in 0..1000000 {
+        if !one(&mut input, &mut out)? {
+            break;
         }
-        left -= 1;
     }
+    Ok(())
 }
 
 // The next case: false where the input has ended.
-fn one() -> bool {
-    if !cases::next_case() {
-        return false;
+fn one<R: Read, W: Write>(input: &mut R, out: &mut W) -> io::Result<bool> {
+    if !cases::next_case(input, out)? {
+        return Ok(false);
     }
-    let mut bytes = io::large_buffer();
-    let bytes_field = cases::next_field(4, &mut bytes);
-    let n = bytes_field.length;
-    if !bytes_field.there {
-        return false;
+    let mut bytes = [0u8; 65536];
+    let field = cases::next_field(input, 4, &mut bytes)?;
+    if !field.there {
+        return Ok(false);
     }
-    case::report(&bytes[..n]);
-    true
+    case::report(out, &bytes[..field.length])?;
+    Ok(true)
 }
