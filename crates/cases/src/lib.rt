@@ -1,7 +1,9 @@
 // What the programs of worked examples share: the fields of a case from a reader, a checksum, and output to a writer.
 #![tactic(auto)]
 
-ghost use Rattle.std.specs.Prelude.{◌≤◌, ◌<◌, IfOk};
+ghost use Rattle.std.specs.Prelude.{◌≤◌, ◌<◌, ◌∷◌, [], IfOk, OnOk, length, take};
+ghost use Rattle.std.specs.Fmt.{decimal};
+ghost use Rattle.std.specs.Io.KnownBytes.{Appends, Consumes, IsAtEnd};
 ghost use Rattle.cases.specs.Counts.{IsPrefixLen};
 
 use std::io;
@@ -33,7 +35,9 @@ fn wide(x: u8) -> usize
 
 // Reads until `buf` is full or the input ends, and returns how many bytes it put at the start of `buf`.
 pub fn read_full<R: Read>(input: &mut R, buf: &mut [u8]) -> io::Result<usize>
-    ensures { IfOk result (λ n. IsPrefixLen n buf.new) }
+    ensures bound { IfOk result (λ n. IsPrefixLen n buf.new) }
+    ensures bytes { IfOk result (λ n. Consumes (R.remaining input.old) (R.remaining input.new) (take n buf.new)) }
+    ensures end { IfOk result (λ n. n < length buf.old → IsAtEnd (R.remaining input.new)) }
 {
     let mut done = 0;
     while done < buf.len() {
@@ -92,16 +96,22 @@ pub fn add_all(sum: u64, b: &[u8]) -> u64
     s
 }
 
-pub fn write_word<W: Write>(out: &mut W, b: &[u8]) -> io::Result<()> {
+pub fn write_word<W: Write>(out: &mut W, b: &[u8]) -> io::Result<()>
+    ensures { OnOk result (Appends (W.contents out.old) (W.contents out.new) b.now) }
+{
     out.write_all(b)
 }
 
 // A space and a number.
-pub fn write_number<W: Write>(out: &mut W, n: usize) -> io::Result<()> {
+pub fn write_number<W: Write>(out: &mut W, n: usize) -> io::Result<()>
+    ensures { OnOk result (Appends (W.contents out.old) (W.contents out.new) (32 ∷ decimal n)) }
+{
     write!(out, " {n}")
 }
 
-pub fn end_line<W: Write>(out: &mut W) -> io::Result<()> {
+pub fn end_line<W: Write>(out: &mut W) -> io::Result<()>
+    ensures { OnOk result (Appends (W.contents out.old) (W.contents out.new) (10 ∷ [])) }
+{
     out.write_all(b"\n")
 }
 
