@@ -171,7 +171,8 @@ fn round(
     let mut lost = StateSet::empty();
     let mut i: usize = 0;
     while i < k {
-        if some_in(changed, children_of(rows, i)) {
+        let touched = some_in(changed, children_of(rows, i));
+        if touched {
             let q = target_of(rows, i);
             let mut row = next[q as usize];
             let fewer = narrow(&mut row, words, rows, i, others, index);

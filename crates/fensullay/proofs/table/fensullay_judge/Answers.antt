@@ -1,5 +1,5 @@
 -- `fensullay::table::fensullay_judge` meets its contract.
-use Rattle.std.proofs.Common.{[], refl}
+use Rattle.std.proofs.Common.{◌≤◌, [], length, arith, refl}
 use Rattle.automaton.specs.Answers.{judgement_of}
 use Rattle.fensullay.specs.Exports.{done, judging}
 use Rattle.fensullay.proofs.Exported.{too_few, refused_with, found_with}
@@ -13,11 +13,13 @@ returns-then-numbers-lt3 c =
 pub returns-in-Refused : goal.returns-in-Refused
 unfolding judging judgement_of
 returns-in-Refused c =
-    let e = refused_with _ _ _ _ [] [] c.if-numbers-lt3.false c.in-Refused.ensures c.number.ensures refl in
+    let room : 3 ≤ length c.args.numbers.now = omega arith in
+    let e = refused_with _ _ _ _ [] [] room c.in-Refused.ensures c.number.ensures refl in
     record { value = e.0; numbers_after = e.1.0 }
 
 pub returns-in-Table : goal.returns-in-Table
 unfolding judging judgement_of done
 returns-in-Table c =
-    let e = found_with _ _ _ _ [] [] c.if-numbers-lt3.false c.in-Table.ensures c.put_all.ensures refl in
+    let room : 3 ≤ length c.args.numbers.now = omega arith in
+    let e = found_with _ _ _ _ [] [] room c.in-Table.ensures c.put_all.ensures refl in
     record { value = e.0; numbers_after = e.1.0 }

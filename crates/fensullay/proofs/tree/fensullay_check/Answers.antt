@@ -1,5 +1,5 @@
 -- `fensullay::tree::fensullay_check` meets its contract.
-use Rattle.std.proofs.Common.{◌≡◌, ◌≤◌, ◌∙◌, List, ◌++◌, ℕ, length, drop, refl, sym, ap}
+use Rattle.std.proofs.Common.{◌≡◌, ◌≤◌, ◌∙◌, List, ◌++◌, ℕ, length, drop, arith, refl, sym, ap}
 use mathlib.Core.Logic.{inl, inr}
 use Rattle.records.specs.Read.{Read}
 use Rattle.trees.specs.Subtree.{Finding}
@@ -40,21 +40,24 @@ answered counts table tree numbers r enough room checks put told is named =
 pub returns-in-Accepted : goal.returns-in-Accepted
 unfolding counts_in yes_no acceptance_of finding_of subtree_after
 returns-in-Accepted c =
-    let e = answered _ _ _ _ _ c.if-counts-lt3.false c.if-numbers-lt2.false c.check-checked.ensures c.put_counts.ensures c.in-Accepted.is refl refl in
+    let room : 2 ≤ length c.args.numbers.now = omega arith in
+    let e = answered _ _ _ _ _ c.if-counts-lt3.false room c.check-checked.ensures c.put_counts.ensures c.in-Accepted.is refl refl in
     record { value = e.0; counts_after = e.1.0; numbers_after = e.1.1 }
 
 pub returns-in-Rejected : goal.returns-in-Rejected
 unfolding counts_in yes_no acceptance_of finding_of subtree_after
 returns-in-Rejected c =
+    let room : 2 ≤ length c.args.numbers.now = omega arith in
     let e =
-    answered _ _ _ _ _ c.if-counts-lt3.false c.if-numbers-lt2.false c.check-checked.ensures c.put_counts.ensures c.in-Rejected.is refl
+    answered _ _ _ _ _ c.if-counts-lt3.false room c.check-checked.ensures c.put_counts.ensures c.in-Rejected.is refl
     c.put_all.ensures in
     record { value = e.0; counts_after = e.1.0; numbers_after = e.1.1 }
 
 pub returns-in-Refused : goal.returns-in-Refused
 unfolding counts_in yes_no acceptance_of finding_of subtree_after
 returns-in-Refused c =
+    let room : 2 ≤ length c.args.numbers.now = omega arith in
     let e =
-    answered _ _ _ _ _ c.if-counts-lt3.false c.if-numbers-lt2.false c.check-checked.ensures c.put_counts.ensures c.in-Refused.is
+    answered _ _ _ _ _ c.if-counts-lt3.false room c.check-checked.ensures c.put_counts.ensures c.in-Refused.is
     c.number.ensures refl in
     record { value = e.0; counts_after = e.1.0; numbers_after = e.1.1 }

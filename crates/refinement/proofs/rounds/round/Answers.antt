@@ -5,7 +5,7 @@ use Rattle.automaton.specs.Row.{rule_at, rules_in}
 use Rattle.refinement.specs.Inner.{touches}
 use Rattle.refinement.proofs.rounds.Underway.{rounded_none, rounded_pass, rounded_kept, rounded_fewer, rounded_all, rounded_below}
 use Rattle.refinement.proofs.rounds.round.Goals as goal
-use Rattle.refinement.proofs.rounds.round.Goals.{then-some_in+then-fewer, then-some_in+else-fewer, else-some_in}
+use Rattle.refinement.proofs.rounds.round.Goals.{then-touched+then-fewer, then-touched+else-fewer, else-touched}
 
 pub loop-i-init : goal.loop-i-init
 loop-i-init c = (
@@ -42,9 +42,9 @@ loop-i-preserved c =
     let others = λ (j : ℕ). rules_in c.args.others.now j in
     let u = rule_at c.args.rows.now l.i in
     let children = ap (any (member c.args.changed.words)) c.children_of.ensures in
-    elim c.if-some_in.branch [
-      | then-some_in+then-fewer w ↦
-          let touched : touches c.args.changed.words u ≡ true = sym (w.if-some_in.ensures ∙ children) in
+    elim c.if-touched.branch [
+      | then-touched+then-fewer w ↦
+          let touched : touches c.args.changed.words u ≡ true = sym (w.if-touched.ensures ∙ children) in
           rw (w.next-is, w.lost-is, w.with-lost.ensures) (
             omega arith,
             rw length-set l.invariant.1,
@@ -57,8 +57,8 @@ loop-i-preserved c =
                 (w.narrow-fewer.ensures.by_index_2 j m a.answering (rounded_below a.states r m a.low _ low))
                 (w.narrow-fewer.ensures.fact w.if-fewer.true),
           )
-      | then-some_in+else-fewer w ↦
-          let touched : touches c.args.changed.words u ≡ true = sym (w.if-some_in.ensures ∙ children) in
+      | then-touched+else-fewer w ↦
+          let touched : touches c.args.changed.words u ≡ true = sym (w.if-touched.ensures ∙ children) in
           rw (w.next-is, w.lost-is) (
             omega arith,
             rw length-set l.invariant.1,
@@ -71,8 +71,8 @@ loop-i-preserved c =
                 (w.narrow-fewer.ensures.by_index_2 j m a.answering (rounded_below a.states r m a.low _ low))
                 (w.narrow-fewer.ensures.row_unchanged w.if-fewer.false),
           )
-      | else-some_in w ↦
-          let out : touches c.args.changed.words u ≡ false = sym (w.if-some_in.ensures ∙ children) in
+      | else-touched w ↦
+          let out : touches c.args.changed.words u ≡ false = sym (w.if-touched.ensures ∙ children) in
           rw (w.next-is, w.lost-is) (
             omega arith,
             l.invariant.1,
