@@ -1,5 +1,5 @@
--- The answer of a check: of a refused table, of a decoded one by its automaton, and of a tree that is read; and acceptance, read off what is found.
--- From what a decoded table holds and the subtree that is named; for `check_tree_in`, `check` and the theorems on checks.
+-- The answer of a check: of a refused table, of a decoded one by its automaton, by the walk over a tree, and of a tree that is read; and acceptance,
+-- read off what is found. From what a decoded table holds and the subtree that is named; for `check_tree_in`, `check` and the theorems on checks.
 use Prim.Native.Nat.{ℕ, ◌+◌, ◌*◌, ◌≤◌}
 use native.Mathlib.Omega.{arith}
 use mathlib.Core.Path.{◌≡◌, refl, sym, ap, ◌∙◌}
@@ -13,13 +13,14 @@ use Rattle.records.specs.declared.refusal.Refusal.{Refusal}
 use Rattle.records.proofs.Fields.{Bytes}
 use Rattle.records.proofs.Reading.{refused≢found, found_same}
 use Rattle.automaton.specs.declared.table.Judged.TheVariants as judged
-use Rattle.automaton.specs.Automaton.{Automaton}
+use Rattle.automaton.specs.Automaton.{Automaton, WellFormed}
 use Rattle.automaton.specs.Table.{judge}
 use Rattle.automaton.specs.Decoded.{size_of, automaton_in, Decodes}
 use Rattle.automaton.specs.declared.table.Size.{Size}
 use Rattle.automaton.specs.declared.decoding.Decoded.{Decoded}
 use Rattle.automaton.proofs.Encoding.{encode_judge, table_least}
 use Rattle.automaton.proofs.Held.{Held, refused_judged}
+use Rattle.automaton.proofs.Theorems.{judged_well_formed}
 use Rattle.indexing.specs.Inner.{IndexRoom}
 use Rattle.trees.specs.declared.evaluation.Answer.TheVariants as answers
 use Rattle.trees.specs.Tree.{Tree, accepts}
@@ -29,7 +30,9 @@ use Rattle.trees.specs.Answers.{acceptance_of, finding_of}
 use Rattle.trees.specs.declared.evaluation.Answer.{Answer}
 use Rattle.trees.specs.declared.evaluation.Answer.TheVariants.{Accepted, Rejected}
 use Rattle.trees.specs.Inner.{tree_finding}
+use Rattle.trees.specs.Holds.{walk_finding}
 use Rattle.trees.proofs.Naming.{named_subtree, finding_accepts}
+use Rattle.trees.proofs.Theorems.{tree_walk}
 use Rattle.simulation.specs.Check.{acceptance, finding}
 
 -- The table and the tree.
@@ -50,6 +53,16 @@ module _ {table : List ℕ} {size : Size} {finals ranks rows : List ℕ} (h : He
   pub held_finding : (tree : List ℕ) → tree_finding (automaton_in size finals ranks rows) tree ≡ finding table tree
   unfolding tree_finding finding ◌>>=◌
   held_finding tree = rw (h.holds, h.judged)
+
+-- The tree by the walk.
+pub finding_walks : (table tree : List ℕ) → finding table tree ≡ judge table >>= (λ (A : Automaton). walk_finding A tree)
+unfolding finding tree_finding ◌>>=◌
+finding_walks table tree = go (judge table) (judged_well_formed table)
+  where
+    go : (x : Read Automaton) → ((A : Automaton) → x ≡ found A → WellFormed A)
+        → (x >>= (λ (A : Automaton). tree_finding A tree)) ≡ x >>= (λ (A : Automaton). walk_finding A tree)
+    go (found A) wf = tree_walk A (wf A refl) tree
+    go (refused cause) wf = refl
 
 -- Whether a tree is accepted, read off what is found of it.
 pub finding_acceptance : (table tree : List ℕ) → map_read is_accepted (finding table tree) ≡ acceptance table tree

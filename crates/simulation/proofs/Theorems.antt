@@ -7,7 +7,7 @@ use mathlib.Core.Bool.{true, true≢false}
 use lib.ListN.{length, take, drop, get_or}
 use Rattle.lists.specs.Lists.{Distinct, from}
 use Rattle.lists.proofs.Ranges.{length_from}
-use Rattle.records.specs.Read.{found, refused, map_read}
+use Rattle.records.specs.Read.{found, refused, ◌>>=◌, map_read}
 use Rattle.records.proofs.Causes.{cause_of}
 use Rattle.automaton.specs.Automaton.{Automaton, WellFormed}
 use Rattle.automaton.specs.Table.{judge}
@@ -16,6 +16,8 @@ use Rattle.trees.specs.Tree.{Tree, Over, belongs, accepts}
 use Rattle.trees.specs.Run.{Reaches, Accepts}
 use Rattle.trees.specs.Postfix.{judge_tree, postfix, peak, encode_tree}
 use Rattle.trees.specs.Subtree.{subtrees, has_state, rejected, is_accepted, Named}
+use Rattle.trees.specs.Holds.{walk_finding}
+use Rattle.trees.specs.Answers.{finding_of}
 use Rattle.trees.specs.declared.evaluation.Answer.TheVariants.{Accepted, Rejected}
 use Rattle.trees.proofs.Runs as runs
 use Rattle.trees.proofs.Postfix as trees
@@ -25,7 +27,7 @@ use Rattle.refinement.specs.Simulation.{Matched, Simulates, related, relation_at
 use Rattle.simulation.proofs.Language as language
 use Rattle.refinement.proofs.Refinement as refinement
 use Rattle.refinement.proofs.Maximality as maximality
-use Rattle.simulation.specs.Check.{acceptance, finding, Checks}
+use Rattle.simulation.specs.Check.{acceptance, finding, counted, Checks}
 use Rattle.simulation.specs.declared.checking.Checked.{Checked}
 use Rattle.simulation.specs.declared.checking.Counts.{Counts}
 use Rattle.simulation.specs.Query.{simulation_of, rounds_of, relation_bytes, relation_query, relation_after, pair_query, Unmatched}
@@ -135,6 +137,17 @@ subtree_symbols = naming.subtree_symbols
 -- Whether a tree is accepted, or the refusal, is read off what is found of it.
 pub finding_acceptance : (table tree : List ℕ) → map_read is_accepted (finding table tree) ≡ acceptance table tree
 finding_acceptance = accepting.finding_acceptance
+
+-- One walk: after the table is judged, what a check finds is 8, then the node limit, then folding `advance` over the symbols and `closing`. So the
+-- answer of the call and its counts are those of the walk. What the walk holds between nodes is in the theorems of `trees`.
+pub one_walk : (table tree : List ℕ) → finding table tree ≡ judge table >>= (λ (A : Automaton). walk_finding A tree)
+one_walk = accepting.finding_walks
+
+pub check_walks : (counts : Counts) (table tree : List ℕ) (r : Checked) → Checks counts table tree r
+    → let walked = judge table >>= (λ (A : Automaton). walk_finding A tree) in
+    (finding_of r.answer ≡ walked) × (r.counts ≡ counted counts (map_read is_accepted walked))
+check_walks counts table tree r c =
+    (c.subtree ∙ one_walk table tree, rw (← one_walk table tree, finding_acceptance table tree) c.counts_after)
 
 -- A table that is not refused gets an answer to each query: the relation query where the output has room, the pair query for its states.
 module _ (table : List ℕ) (A : Automaton) (judged : judge table ≡ found A) where

@@ -26,7 +26,8 @@ use Rattle.records.proofs.Reading.{refused≢found, found_same, checked, bind_fo
 use Rattle.trees.specs.Tree.{Tree, Trees, node, nil, cons, arity_of, Over, AllOver}
 use Rattle.trees.specs.Postfix.{trees_in, rank_on, push, push_all, single, is_tree_record, judge_tree, postfix, postfixes, peak, peak_above}
 use Rattle.trees.specs.Postfix.{encode_tree}
-use Rattle.trees.proofs.Subtrees.{top, postfixes_tops, read_trees, read_node}
+use Rattle.trees.specs.Holds.{read_trees}
+use Rattle.trees.proofs.Subtrees.{top, postfixes_tops, read_node}
 
 -- Trees as a list, and back.
 unfoldable tree_list : Trees → List Tree

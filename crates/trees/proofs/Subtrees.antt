@@ -7,6 +7,7 @@ use lib.ListN.{length, take, drop, length-map, take-append-drop}
 use Rattle.trees.specs.Tree.{Tree, Trees, node, nil, cons}
 use Rattle.trees.specs.Postfix.{trees_in, postfix, postfixes}
 use Rattle.trees.specs.Subtree.{subtrees, subtrees_in}
+use Rattle.trees.specs.Holds.{read_trees}
 
 unfoldable pub top : Tree → ℕ
 top (node f ts) = f
@@ -23,10 +24,6 @@ mutual
 
 pub length_subtrees : (t : Tree) → length (subtrees t) ≡ length (postfix t)
 length_subtrees t = sym (ap length (postfix_tops t) ∙ length-map (subtrees t) top)
-
--- The subtrees of the trees on a stack, from its bottom up: one for each node that was read.
-unfoldable pub read_trees : List Tree → List Tree
-read_trees stack = subtrees_in (trees_in (reverse stack))
 
 subtrees_append : (ss ts : List Tree) → subtrees_in (trees_in (ss ++ ts)) ≡ subtrees_in (trees_in ss) ++ subtrees_in (trees_in ts)
 unfolding trees_in subtrees

@@ -1,38 +1,50 @@
 -- The walk agrees with the trees: folding `advance` over some symbols and closing gives what reading them as trees finds. The walk of a stack of
 -- trees is a function of them, with which one node commutes. And what a walk can hold, node by node. From `rank_on` in Postfix and the laws of
--- subtrees; for evaluation.
-use Prim.Native.Nat.{ℕ, suc, ◌+◌, ◌<◌}
+-- subtrees; for evaluation and the theorems.
+use Prim.Native.Nat.{ℕ, zero, suc, ◌+◌, ◌≤◌, ◌<◌}
 use native.Mathlib.Nat.{add-zero, zero-add, suc-add, add-suc}
 use native.Mathlib.Numerals.{add-one}
 use native.Mathlib.Omega.{arith}
-use mathlib.Core.Path.{◌≡◌, refl, sym, ap}
-use mathlib.Core.List.{List, [], ◌∷◌, ◌++◌, map, reverse}
+use mathlib.Core.Path.{◌≡◌, refl, sym, ap, ◌∙◌}
+use mathlib.Core.List.{List, [], ◌∷◌, ◌++◌, map, reverse, reverse_aux}
 use mathlib.Core.Bool.{Bool, true, false, cond, not, ◌&&◌, ◌||◌}
 use lib.ListN.{length, take, drop, length-append, length-drop, length-map}
-use lib.Dec.{eqb}
-use Rattle.lists.specs.Lists.{All, none, also, from, keep, any, among}
+use lib.Dec.{eqb, leb}
+use Rattle.lists.specs.Lists.{All, none, also, Rising, from, keep, any, among}
 use Rattle.lists.proofs.Booleans.{same_bool}
 use Rattle.lists.proofs.Elements.{all_member, all_drop, member_all}
 use Rattle.lists.proofs.Keeping.{keep_in, keep_out, keep_agree}
 use Rattle.lists.proofs.Mapping.{map_take, map_drop, map_reverse}
-use Rattle.lists.proofs.Ranges.{from_member, member_from}
+use Rattle.lists.proofs.Ranges.{from_rising, from_member, member_from}
+use Rattle.lists.proofs.Rising.{rising_keep}
 use Rattle.lists.proofs.Search.{any_agree, among_in, among_out}
-use Rattle.records.specs.Read.{Read, found, refused, ◌>>=◌, map_read}
-use Rattle.records.proofs.Reading.{bind_found, found_same}
+use Rattle.records.specs.Bytes.{numbers}
+use Rattle.records.specs.Record.{opened, body_of}
+use Rattle.records.specs.Read.{Read, found, refused, ◌>>=◌, ◌>>◌, check, map_read}
+use Rattle.records.proofs.Reading.{bind_bind, bind_found, found_same}
 use Rattle.automaton.specs.Automaton.{Automaton, WellFormed}
 use Rattle.trees.specs.Tree.{Tree, node, belongs, belong_in_order, accepts}
-use Rattle.trees.specs.Postfix.{trees_in, rank_on, push, push_all, single, postfix, postfixes}
+use Rattle.trees.specs.Postfix.{trees_in, rank_on, push, push_all, single, is_tree_record, judge_tree, postfix, postfixes}
 use Rattle.trees.specs.Subtree.{subtrees, has_state, first_bad, finding_in}
 use Rattle.trees.specs.Walk.{Waiting, Walk, start, have_in_order, leads_to, sizes_of, joined, is_none, noted, onto, advance, advance_all, closing}
-use Rattle.trees.specs.Inner.{Holdable, nodes_finding}
+use Rattle.trees.specs.Inner.{Holdable, nodes_finding, tree_finding}
+use Rattle.trees.specs.Holds as holds
+use Rattle.trees.specs.Holds.{walk_finding, read_trees, StatesBelow, FirstBelow}
+use Rattle.trees.specs.declared.evaluation.First.{First}
 use Rattle.trees.specs.declared.evaluation.First.TheVariants.{Nowhere, At}
 use Rattle.trees.proofs.Postfix.{ranked}
-use Rattle.trees.proofs.Subtrees.{length_subtrees, read_trees, read_node, read_one}
+use Rattle.trees.proofs.Subtrees.{length_subtrees, read_node, read_one}
 
 pub among_kept : (test : ℕ → Bool) (n q : ℕ) → q < n → among (keep test (from 0 n)) q ≡ test q
 among_kept test n q h =
     same_bool (λ e. (keep_out test (from 0 n) (among_out (keep test (from 0 n)) q e)).1)
     (λ e. among_in (keep_in test (from_member n 0 q (omega arith) (omega arith)) e))
+
+pub kept_below : (test : ℕ → Bool) (n : ℕ) → Rising (keep test (from 0 n)) × All (λ (q : ℕ). q < n) (keep test (from 0 n))
+kept_below test n = (
+  rising_keep test (from_rising 0 n),
+  member_all _ (λ q m. omega (arith, member_from n 0 q (keep_out test (from 0 n) m).0)),
+)
 
 pub is_none_kept : (test : ℕ → Bool) (xs : List ℕ) → is_none (keep test xs) ≡ not (any test xs)
 unfolding keep any is_none
@@ -145,6 +157,24 @@ module _ (A : Automaton) (wf : WellFormed A) where
       go (found trees) = closing_walk trees
       go (refused cause) = refl
 
+  pub walk_holds : (symbols : List ℕ) → advance_all A start symbols ≡ map_read (holds.walk_of A) (push_all A.ranks [] symbols)
+  unfolding start read_trees trees_in subtrees first_bad walk_of held holds.walk_of holds.waiting_of
+  walk_holds = advance_all_walk []
+
+  pub tree_walk : (b : List ℕ) → tree_finding A b ≡ walk_finding A b
+  unfolding tree_finding walk_finding judge_tree check ◌>>◌ ◌>>=◌
+  tree_walk b = go (is_tree_record (opened b) b) (leb (length symbols) 16384)
+    where
+      symbols : List ℕ
+      symbols = numbers (body_of b)
+
+      go : (whole few : Bool)
+          → ((check whole 8 >> (check few 11 >> (push_all A.ranks [] symbols >>= single))) >>= (λ (t : Tree). found (finding_in A t)))
+          ≡ check whole 8 >> (check few 11 >> nodes_finding A symbols)
+      go true true = bind_bind (push_all A.ranks [] symbols) single _ _ (λ trees. refl) ∙ sym (walk_agrees symbols)
+      go true false = refl
+      go false few = refl
+
 -- What can be held.
 module _ (A : Automaton) where
   pub start_holdable : Holdable A start
@@ -174,3 +204,59 @@ module _ (A : Automaton) where
   walked_holdable w (f ∷ fs) h e =
       let (next, one, more) = bind_found (advance A w f) _ e in
       walked_holdable next fs (advance_holdable w f h one) more
+
+-- The sizes of the trees that a node takes off the stack and of those that it leaves.
+sizes_parts : (r : ℕ) (ws : List Waiting) → sizes_of (reverse (take r ws)) + sizes_of (drop r ws) ≡ sizes_of ws
+unfolding sizes_of
+sizes_parts r ws = go r ws [] ∙ add-zero (sizes_of ws)
+  where
+    go : (r : ℕ) (ws vs : List Waiting) → sizes_of (reverse_aux (take r ws) vs) + sizes_of (drop r ws) ≡ sizes_of ws + sizes_of vs
+    go zero ws vs = omega arith
+    go (suc r) [] vs = omega arith
+    go (suc r) (w ∷ ws) vs = omega (arith, go r ws (w ∷ vs))
+
+-- A first node after one node more, whose tree has no more nodes than there are then.
+first_below : (first : First) (nodes size : ℕ) (bad : Bool) → FirstBelow (suc nodes) first → size ≤ suc nodes
+    → FirstBelow (suc (suc nodes)) (noted first nodes size bad)
+unfolding noted FirstBelow
+first_below (At i s) nodes size bad (low, few) most = (omega arith, omega arith)
+first_below Nowhere nodes size true b most = (omega arith, omega arith)
+first_below Nowhere nodes size false b most = tt
+
+-- What holds of every walk with an automaton from the start on: its trees belong to states of the automaton alone, each once and in order; they are at
+-- most 1,024, and no more than the nodes, which their sizes add up to; a first node and its size are no more than the nodes either.
+pub record Invariant (A : Automaton) (w : Walk) : Type 0 where
+  pub states : All (StatesBelow A.states) w.stack
+  pub sizes : sizes_of w.stack ≡ w.nodes
+  pub few : length w.stack ≤ w.nodes
+  pub waiting : length w.stack ≤ 1024
+  pub first : FirstBelow (suc w.nodes) w.first
+
+module _ (A : Automaton) where
+  pub start_invariant : Invariant A start
+  unfolding start sizes_of FirstBelow
+  start_invariant = record { states = none; sizes = refl; few = omega arith; waiting = omega arith; first = tt }
+
+  pub advance_invariant : (w : Walk) (f : ℕ) {next : Walk} → Invariant A w → advance A w f ≡ found next → Invariant A next
+  unfolding advance onto joined sizes_of
+  advance_invariant w f h e =
+      let (r, passed, is) = bind_found (rank_on A.ranks (length w.stack) f) _ e in
+      let p = ranked A.ranks (length w.stack) f passed in
+      let children = reverse (take r w.stack) in
+      let parts : sizes_of children + sizes_of (drop r w.stack) ≡ w.nodes = omega (arith, sizes_parts r w.stack, h.sizes) in
+      rw (← found_same is) record {
+        states = also {x = joined A f children} (kept_below (leads_to A.rules f children) A.states) (all_drop r w.stack h.states);
+        sizes = omega arith;
+        few = omega (arith, length-drop r w.stack, h.few);
+        waiting = omega (arith, length-drop r w.stack, p.few);
+        first = first_below w.first w.nodes (suc (sizes_of children)) _ h.first (omega arith);
+      }
+
+  pub walked_invariant : (w : Walk) (fs : List ℕ) {last : Walk} → Invariant A w → advance_all A w fs ≡ found last
+      → Invariant A last × (last.nodes ≡ w.nodes + length fs)
+  unfolding advance_all
+  walked_invariant w [] h e = rw (← found_same e) (h, sym (add-zero w.nodes))
+  walked_invariant w (f ∷ fs) h e =
+      let (next, one, more) = bind_found (advance A w f) _ e in
+      let (after, counts) = walked_invariant next fs (advance_invariant w f h one) more in
+      (after, omega (arith, advance_counts A w f one))

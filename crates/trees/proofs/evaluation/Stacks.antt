@@ -1,5 +1,5 @@
 -- The stack of the walk in arrays: the trees that a node takes off it, the states that the rules of the node's symbol give from their sets, and the
--- stack after the node's own set and start are put. From NodeStates; for `step`, and for Nodes.
+-- stack after the node's own set and start are put. From NodeStates; for `step`, and for Nodes and Holding.
 use Prim.Native.Nat.{ℕ, zero, suc, ◌+◌, ◌-◌, ◌*◌, ◌≤◌, ◌<◌}
 use native.Mathlib.Nat.{add-zero, zero-add, suc-add, add_comm, add-sub_cancel}
 use native.Mathlib.Numerals.{add-one}
@@ -30,6 +30,7 @@ use Rattle.indexing.specs.Index.{keyed, numbers_of}
 use Rattle.indexing.proofs.Indexing.{keyed_members}
 use Rattle.trees.specs.Walk.{Waiting, have_in_order, leads_to, sizes_of, joined, is_none}
 use Rattle.trees.specs.Inner.{Evaluable, in_order, rule_gives, stack_in, Consecutive, start_of}
+use Rattle.trees.specs.Holds.{SameUpTo}
 use Rattle.trees.proofs.Walking.{among_kept, is_none_kept}
 use Rattle.trees.proofs.evaluation.NodeStates.{entry_after_drop}
 
@@ -220,6 +221,10 @@ module _ (starts starts' : List ℕ) where
         same h (omega arith),
         stack_same words words' h (get_or starts h 0) (λ e l. sets e (omega arith)) (λ e l. same e (omega arith)),
       )
+
+pub stack_up_to : (words starts words' starts' : List ℕ) (h end : ℕ) → SameUpTo h words starts words' starts'
+    → stack_in words starts h end ≡ stack_in words' starts' h end
+stack_up_to words starts words' starts' h end same = stack_same starts' starts words' words h end (λ e l. (same e l).0) (λ e l. (same e l).1)
 
 -- A set and a start put at place e.
 module _ (starts : List ℕ) (e start : ℕ) (place : e < length starts) where

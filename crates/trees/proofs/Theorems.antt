@@ -1,0 +1,50 @@
+-- What holds of the walk over a tree and of what the arrays hold between nodes, stated over the definitions of specs/ alone.
+use Prim.Native.Nat.{ℕ, ◌+◌, ◌^◌, ◌≤◌, ◌<◌}
+use native.Mathlib.Omega.{arith}
+use mathlib.Core.Path.{◌≡◌}
+use mathlib.Core.Logic.{◌↔◌}
+use mathlib.Core.List.{List, []}
+use lib.ListN.{length, get_or}
+use Rattle.records.specs.Read.{found, map_read}
+use Rattle.automaton.specs.Automaton.{Automaton, WellFormed}
+use Rattle.trees.specs.Postfix.{push_all}
+use Rattle.trees.specs.Walk.{Walk, start, sizes_of, advance_all}
+use Rattle.trees.specs.Inner.{StackRoom, tree_finding}
+use Rattle.trees.specs.Holds.{walk_finding, walk_of, Holding, SameUpTo, HoldableWalk}
+use Rattle.trees.specs.declared.evaluation.Held.{Held}
+use Rattle.trees.proofs.Walking as walking
+use Rattle.trees.proofs.evaluation.Holding as holding
+
+module _ (A : Automaton) (w : WellFormed A) where
+  -- After any symbols the walk holds of the trees that were read what `walk_of` says; or both refuse, alike.
+  pub walk_holds : (symbols : List ℕ) → advance_all A start symbols ≡ map_read (walk_of A) (push_all A.ranks [] symbols)
+  walk_holds = walking.walk_holds A w
+
+  -- What is found of a tree in bytes is what the walk finds.
+  pub tree_walk : (b : List ℕ) → tree_finding A b ≡ walk_finding A b
+  tree_walk = walking.tree_walk A w
+
+  -- Each walk over at most 16,384 symbols can be held in arrays, and the sizes of its trees add up to the number of symbols.
+  pub walked_holdable : (symbols : List ℕ) {last : Walk} → length symbols ≤ 16384 → advance_all A start symbols ≡ found last
+      → HoldableWalk last × (sizes_of last.stack ≡ length symbols) × (last.nodes ≡ length symbols)
+  unfolding start
+  walked_holdable symbols {last} few e =
+      let (h, counts) = walking.walked_invariant A start symbols (walking.start_invariant A) e in
+      let all : last.nodes ≡ length symbols = omega arith in
+      (holding.invariant_holdable A last w.states (omega arith) h, omega (arith, h.sizes), all)
+
+-- The walks that arrays can hold: each of these, whether trees lead to it or not, and no other.
+pub walk_held : (w : Walk) → HoldableWalk w ↔ ((words : List ℕ) × (starts : List ℕ) × (held : Held) × Holding words starts held w)
+walk_held w = (holding.holdable_held w, λ (words, starts, held, h). holding.holding_holdable h)
+
+module _ {words starts words' starts' : List ℕ} {held : Held} {w : Walk} where
+  -- Nothing else is held: arrays that hold the same walk are the same up to the height.
+  pub held_alone : {held' : Held} → Holding words starts held w → Holding words' starts' held' w
+      → (held ≡ held') × SameUpTo held.height words starts words' starts'
+  held_alone = holding.held_alone
+
+  -- What stands in them from the height on does not matter.
+  pub held_below : SameUpTo held.height words starts words' starts' → StackRoom (held.height + 1) words' starts'
+      → ((i : ℕ) → get_or words' i 0 < 2 ^ 64) × ((i : ℕ) → get_or starts' i 0 < 2 ^ 16)
+      → Holding words starts held w → Holding words' starts' held w
+  held_below = holding.held_below

@@ -1,0 +1,76 @@
+-- What is held between nodes, by the trees that were read and by the arrays; and what the walk finds of a tree in bytes. No contract cites any of it:
+-- proofs/Theorems.antt is about it.
+use Rattle.std.specs.Prelude.{ℕ, zero, suc, ◌+◌, ◌^◌, ◌≤◌, ◌<◌, ◌≡◌, List, map, reverse, length, get_or, leb}
+use Rattle.lists.specs.Lists.{All, Rising, from, keep}
+use Rattle.sets.specs.Entries.{entry_at}
+use Rattle.records.specs.Bytes.{numbers}
+use Rattle.records.specs.Record.{opened, body_of}
+use Rattle.records.specs.Read.{Read, ◌>>◌, check}
+use Rattle.automaton.specs.Automaton.{Automaton}
+use Rattle.trees.specs.Tree.{Tree, belongs}
+use Rattle.trees.specs.Postfix.{trees_in, is_tree_record, postfix}
+use Rattle.trees.specs.Subtree.{subtrees_in, first_bad, Finding}
+use Rattle.trees.specs.Walk.{Waiting, Walk, sizes_of}
+use Rattle.trees.specs.Inner.{StackRoom, walk_in, nodes_finding}
+use Rattle.trees.specs.declared.evaluation.First.{First}
+use Rattle.trees.specs.declared.evaluation.First.TheVariants.{Nowhere, At}
+use Rattle.trees.specs.declared.evaluation.Held.{Held}
+
+-- What the walk finds of a tree in bytes: 8, then the node limit (11), from the record and its length; then the walk over the body's symbols.
+unfoldable pub walk_finding : Automaton → List ℕ → Read Finding
+walk_finding A b = do
+  check (is_tree_record (opened b) b) 8
+  check (leb (length (numbers (body_of b))) 16384) 11
+  nodes_finding A (numbers (body_of b))
+
+-- The subtrees of the trees on a stack, from its bottom up: one for each node that was read.
+unfoldable pub read_trees : List Tree → List Tree
+read_trees stack = subtrees_in (trees_in (reverse stack))
+
+-- Of a tree: the states that it belongs to, and how many nodes it has.
+unfoldable pub waiting_of : Automaton → Tree → Waiting
+waiting_of A t = record { states = keep (belongs A.rules t) (from 0 A.states); size = length (postfix t) }
+
+-- Of the trees on a stack: that of each, how many nodes were read, and the first of them whose tree belongs to no state.
+unfoldable pub walk_of : Automaton → List Tree → Walk
+walk_of A trees = record { stack = map (waiting_of A) trees; nodes = length (read_trees trees); first = first_bad A 0 (read_trees trees) }
+
+-- The starts of so many trees, one after the other up to an end: none ends before it starts. Unlike `Consecutive`, the lowest may start after 0.
+unfoldable pub Following : List ℕ → ℕ → ℕ → Type 0
+Following starts zero end = Unit {0}
+Following starts (suc e) end = (get_or starts e 0 ≤ end) × Following starts e (get_or starts e 0)
+
+-- What is held fits the arrays: at most 1,024 trees, with room for one more up to that number; fewer nodes than a start can count; and no tree ends
+-- before it starts.
+pub record FitsArrays (words starts : List ℕ) (held : Held) : Type 0 where
+  pub few : (held.height ≤ 1024) × (held.nodes < 65536)
+  pub room : StackRoom (held.height + 1) words starts
+  pub following : Following starts held.height held.nodes
+
+-- A first node and the size of its tree, if there is one, are below n.
+unfoldable pub FirstBelow : ℕ → First → Type 0
+FirstBelow n Nowhere = Unit {0}
+FirstBelow n (At i size) = (i < n) × (size < n)
+
+-- Arrays that hold a walk: what is held fits them, and their numbers and those of the first node have the bits of their types.
+pub record Holding (words starts : List ℕ) (held : Held) (w : Walk) : Type 0 where
+  pub fits : FitsArrays words starts held
+  pub bits : ((i : ℕ) → get_or words i 0 < 2 ^ 64) × ((i : ℕ) → get_or starts i 0 < 2 ^ 16)
+  pub first : FirstBelow (2 ^ 64) held.first
+  pub holds : walk_in words starts held ≡ w
+
+-- Arrays with the same sets and starts up to a height.
+abbrev pub SameUpTo : ℕ → List ℕ → List ℕ → List ℕ → List ℕ → Type 0
+SameUpTo h words starts words' starts' = (e : ℕ) → e < h → (entry_at words e ≡ entry_at words' e) × (get_or starts e 0 ≡ get_or starts' e 0)
+
+-- The states of a waiting tree are below n, each once and in order.
+abbrev pub StatesBelow : ℕ → Waiting → Type 0
+StatesBelow n t = Rising t.states × All (λ (q : ℕ). q < n) t.states
+
+-- The walks that arrays can hold: at most 1,024 trees, of states below 256; fewer nodes than 65,536; sizes that add up to no more than the number of
+-- nodes; and a first node of any number and size that 64 bits have.
+pub record HoldableWalk (w : Walk) : Type 0 where
+  pub few : (length w.stack ≤ 1024) × (w.nodes < 65536)
+  pub states : All (StatesBelow 256) w.stack
+  pub sizes : sizes_of w.stack ≤ w.nodes
+  pub first : FirstBelow (2 ^ 64) w.first
