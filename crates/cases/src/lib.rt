@@ -4,7 +4,6 @@
 ghost use Rattle.std.specs.Prelude.{◌≤◌, ◌<◌, ◌∷◌, [], IfOk, OnOk, length, take};
 ghost use Rattle.std.specs.Fmt.{decimal};
 ghost use Rattle.std.specs.Io.KnownBytes.{Appends, Consumes, IsAtEnd};
-ghost use Rattle.cases.specs.Counts.{IsPrefixLen};
 
 use std::io;
 use std::io::{Read, Write};
@@ -35,7 +34,7 @@ fn wide(x: u8) -> usize
 
 // Reads until `buf` is full or the input ends, and returns how many bytes it put at the start of `buf`.
 pub fn read_full<R: Read>(input: &mut R, buf: &mut [u8]) -> io::Result<usize>
-    ensures bound { IfOk result (λ n. IsPrefixLen n buf.new) }
+    ensures bound { IfOk result (λ n. n ≤ length buf.new) }
     ensures bytes { IfOk result (λ n. Consumes (R.remaining input.old) (R.remaining input.new) (take n buf.new)) }
     ensures end { IfOk result (λ n. n < length buf.old → IsAtEnd (R.remaining input.new)) }
 {
@@ -60,7 +59,7 @@ pub struct Field {
 // The next field of the input, a number of `width` bytes and then as many bytes, at the start of `buf`. It is not there where the
 // input has ended or `buf` is too short.
 pub fn next_field<R: Read>(input: &mut R, width: usize, buf: &mut [u8]) -> io::Result<Field>
-    ensures { IfOk result (λ field. IsPrefixLen field.length buf.new) }
+    ensures { IfOk result (λ field. field.length ≤ length buf.new) }
 {
     let n = number(input, width)?;
     if n > buf.len() {
