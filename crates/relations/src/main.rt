@@ -66,7 +66,7 @@ fn filled() -> [u8; 8300]
     [170; 8300]
 }
 
-// Each pair of states: false where the input has ended.
+// Each pair of states: false where the input ends before their number.
 fn compare_all<R: Read, W: Write>(
     input: &mut R,
     out: &mut W,

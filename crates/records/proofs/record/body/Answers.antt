@@ -1,5 +1,5 @@
 -- A record that opens lies within the bytes; otherwise the body is empty.
-use Rattle.std.proofs.Common.{sym}
+use Rattle.std.proofs.Common.{arith, sym}
 use Rattle.records.specs.Answers.{opening_of}
 use Rattle.records.proofs.Opening.{Within, opened_within, body_within}
 use Rattle.records.proofs.Answers.{none_opens}
@@ -13,13 +13,13 @@ unfolding opening_of
 lies_within c = opened_within _ _ _ (sym c.in-Record.ensures)
 
 pub slice_bounds-result-count : goal.slice_bounds-result-count
-slice_bounds-result-count c = (lies_within c).start
+slice_bounds-result-count c = omega (arith, (lies_within c).start)
 
 pub slice_bounds-result-start : goal.slice_bounds-result-start
-slice_bounds-result-start c = (lies_within c).start
+slice_bounds-result-start c = omega (arith, (lies_within c).start, (lies_within c).stop)
 
 pub slice_bounds-result-end-2 : goal.slice_bounds-result-end-2
-slice_bounds-result-end-2 c = (lies_within c).stop
+slice_bounds-result-end-2 c = omega (arith, (lies_within c).stop)
 
 pub returns : goal.returns
 unfolding opening_of
