@@ -13,7 +13,7 @@ unfolding opening_of
 lies_within c = opened_within _ _ _ (sym c.in-Record.ensures)
 
 pub slice_bounds-result-count : goal.slice_bounds-result-count
-slice_bounds-result-count c = omega (arith, (lies_within c).start)
+slice_bounds-result-count c = omega (arith, (lies_within c).start, (lies_within c).stop)
 
 pub slice_bounds-result-start : goal.slice_bounds-result-start
 slice_bounds-result-start c = omega (arith, (lies_within c).start, (lies_within c).stop)
