@@ -2,24 +2,23 @@
 -- the cause. From the contract of `decode`; used by every call above that decodes a table.
 use Prim.Native.Nat.{ℕ, ◌≤◌, ◌<◌}
 use native.Mathlib.Omega.{arith}
-use mathlib.Core.Path.{◌≡◌, sym, ap, ◌∙◌}
+use mathlib.Core.Path.{◌≡◌, refl, sym, ap, ◌∙◌}
 use mathlib.Core.List.{List}
 use lib.ListN.{length, length-take}
 use lib.Seq.{length-take-le}
 use Rattle.lists.proofs.Elements.{all_member}
-use Rattle.records.specs.Read.{found, refused}
+use Rattle.std.specs.Prelude.{Result, Ok, Err}
+use Rattle.records.specs.Read.{found, refused, map_read}
+use Rattle.records.specs.Answers.{reading_of}
 use Rattle.records.specs.Refusal.{number_of}
 use Rattle.records.specs.declared.refusal.Refusal.{Refusal}
 use Rattle.records.proofs.Fields.{Bytes}
-use Rattle.records.proofs.Reading.{map_found, map_refused}
-use Rattle.automaton.specs.declared.table.Judged.TheVariants as judged
+use Rattle.records.proofs.Reading.{found_same, map_found, map_refused}
 use Rattle.automaton.specs.Automaton.{Automaton, WellFormed, WellFormedRule}
 use Rattle.automaton.specs.Table.{judge, encode}
 use Rattle.automaton.specs.Row.{rule_at, Rows}
 use Rattle.automaton.specs.Decoded.{size_of, sized, automaton_in, Decodes}
-use Rattle.automaton.specs.Answers.{judgement_of}
 use Rattle.automaton.specs.declared.table.Size.{Size}
-use Rattle.automaton.specs.declared.table.Judged.TheVariants.{Table}
 use Rattle.automaton.specs.declared.decoding.Decoded.{Decoded}
 use Rattle.automaton.proofs.Encoding.{judge_well_formed, encode_judge}
 use Rattle.automaton.proofs.Rows.{length_rules_in, rule_in_lem}
@@ -57,39 +56,32 @@ module _ {b : List ℕ} {size : Size} {finals ranks rows : List ℕ} (held : Hel
       let count = ap (λ (s : Size). s.symbols) held.counts in
       omega (arith, length-take size.symbols ranks)
 
-module _ (b : List ℕ) (r : Decoded) (size : Size) (ranks rows : List ℕ) where
-  pub answered_held : Decodes (judge b) r ranks rows → judgement_of r.judged ≡ found size → Held b size r.finals.words ranks rows
-  unfolding sized size_of
-  answered_held d e =
-      let (A, is, counts) = map_found size_of (judge b) (sym d.answer ∙ e) in held A is (sym counts)
-    where
-      held : (A : Automaton) → judge b ≡ found A → size ≡ size_of A → Held b size r.finals.words ranks rows
-      held A is counts = record {
-        automaton = A;
-        judged = is;
-        well_formed = judge_well_formed b A is;
-        counts = counts;
-        holds = rw counts (d.holds A is);
-        rows_hold = rw counts (d.rows_hold A is);
+module _ (b : List ℕ) (r : Result Decoded Refusal) (d : Decoded) (ranks rows : List ℕ) where
+  pub decoded_means : Decodes (judge b) r ranks rows → r ≡ Ok d → judge b ≡ found (automaton_in d.size d.finals.words ranks rows)
+  decoded_means h e = h.holds d e
+
+  pub decoded_held : Decodes (judge b) r ranks rows → r ≡ Ok d → Held b d.size d.finals.words ranks rows
+  unfolding sized reading_of size_of map_read
+  decoded_held h e =
+      let (A, is, counts) = map_found size_of (judge b) (sym h.answer ∙ ap (λ (x : Result Decoded Refusal). map_read (λ (y : Decoded). y.size) (reading_of x)) e) in
+      record {
+        automaton = automaton_in d.size d.finals.words ranks rows;
+        judged = decoded_means h e;
+        well_formed = judge_well_formed b _ (decoded_means h e);
+        counts = sym counts ∙ ap size_of (found_same (sym is ∙ decoded_means h e));
+        holds = refl;
+        rows_hold = h.rows_hold d e;
       }
 
-  pub decoded_held : Decodes (judge b) r ranks rows → r.judged ≡ Table size → Held b size r.finals.words ranks rows
-  unfolding judgement_of
-  decoded_held d e = answered_held d (ap judgement_of e)
-
-  pub decoded_means : Decodes (judge b) r ranks rows → r.judged ≡ Table size
-      → judge b ≡ found (automaton_in size r.finals.words ranks rows)
-  decoded_means d e = let held = decoded_held d e in held.judged ∙ ap found (sym held.holds)
-
   -- What `write` requires.
-  pub decoded_writable : Decodes (judge b) r ranks rows → r.judged ≡ Table size
-      → (size.symbols ≤ length ranks) × (Rows rows size.rules × WellFormed (automaton_in size r.finals.words ranks rows))
-  decoded_writable d e = let held = decoded_held d e in (held_ranks held, (held.rows_hold, held_well_formed held))
+  pub decoded_writable : Decodes (judge b) r ranks rows → r ≡ Ok d
+      → (d.size.symbols ≤ length ranks) × (Rows rows d.size.rules × WellFormed (automaton_in d.size d.finals.words ranks rows))
+  decoded_writable h e = let held = decoded_held h e in (held_ranks held, (held.rows_hold, held_well_formed held))
 
   -- Written back, it gives the table's own bytes.
-  pub decoded_encodes : Bytes b → Decodes (judge b) r ranks rows → r.judged ≡ Table size
-      → encode (automaton_in size r.finals.words ranks rows) ≡ b
-  decoded_encodes bytes d e = encode_judge b (automaton_in size r.finals.words ranks rows) bytes (decoded_means d e)
+  pub decoded_encodes : Bytes b → Decodes (judge b) r ranks rows → r ≡ Ok d
+      → encode (automaton_in d.size d.finals.words ranks rows) ≡ b
+  decoded_encodes bytes h e = encode_judge b (automaton_in d.size d.finals.words ranks rows) bytes (decoded_means h e)
 
 -- Each rule of a well-formed automaton that arrays hold.
 pub rule_well_formed : (size : Size) (finals ranks rows : List ℕ) → WellFormed (automaton_in size finals ranks rows)
@@ -97,7 +89,8 @@ pub rule_well_formed : (size : Size) (finals ranks rows : List ℕ) → WellForm
 unfolding automaton_in
 rule_well_formed size finals ranks rows wf i h = all_member wf.rules (rule_in_lem rows size.rules i h)
 
-pub refused_judged : (b : List ℕ) (r : Decoded) (ranks rows : List ℕ) (cause : Refusal)
-    → Decodes (judge b) r ranks rows → r.judged ≡ judged.Refused cause → judge b ≡ refused (number_of cause)
-unfolding judgement_of sized
-refused_judged b r ranks rows cause d e = map_refused size_of (judge b) (sym d.answer ∙ ap judgement_of e)
+pub refused_judged : (b : List ℕ) (r : Result Decoded Refusal) (ranks rows : List ℕ) (cause : Refusal)
+    → Decodes (judge b) r ranks rows → r ≡ Err cause → judge b ≡ refused (number_of cause)
+unfolding reading_of sized map_read
+refused_judged b r ranks rows cause h e =
+    map_refused size_of (judge b) (sym h.answer ∙ ap (λ (x : Result Decoded Refusal). map_read (λ (y : Decoded). y.size) (reading_of x)) e)

@@ -1,3 +1,4 @@
+pub mod Chunks
 pub mod Checked
 pub mod Encoding
 pub mod Rows

@@ -7,20 +7,22 @@ use lib.ListN.{length, get_or}
 use lib.Dec.{eqb}
 use Rattle.sets.specs.Set.{member, empty_set, with_state, without_state, union_of, meet_of, same_set}
 use Rattle.sets.proofs.StateSets as sets
-use Rattle.records.specs.Read.{found, refused}
+use Rattle.records.specs.Read.{found, refused, ◌>>=◌}
 use Rattle.records.specs.Output.{written, written_over}
 use Rattle.records.proofs.Buffers as leaving
 use Rattle.automaton.specs.Automaton.{Automaton, WellFormed}
 use Rattle.automaton.specs.Table.{judge, encode}
 use Rattle.automaton.specs.Row.{Rows}
+use Rattle.automaton.specs.Inner.{judge_head, judge_behind}
 use Rattle.automaton.specs.Decoded.{automaton_in, Decodes}
 use Rattle.automaton.specs.declared.decoding.Decoded.{Decoded}
-use Rattle.automaton.specs.declared.table.Size.{Size}
-use Rattle.automaton.specs.declared.table.Judged.TheVariants.{Table}
+use Rattle.std.specs.Prelude.{Result, Ok}
+use Rattle.records.specs.declared.refusal.Refusal.{Refusal}
 use Rattle.records.proofs.Causes.{cause_of}
 use Rattle.automaton.proofs.TableCauses as causes
 use Rattle.automaton.proofs.Encoding as encoding
 use Rattle.automaton.proofs.Held as meaning
+use Rattle.automaton.proofs.table.Judging as judging
 
 -- A table that is judged without a refusal is a well-formed automaton.
 pub judged_well_formed : (b : List ℕ) (A : Automaton) → judge b ≡ found A → WellFormed A
@@ -29,6 +31,10 @@ judged_well_formed = encoding.judge_well_formed
 -- One that is refused has one of causes 1 to 7.
 pub judge_causes : (b : List ℕ) (cause : ℕ) → judge b ≡ refused cause → (1 ≤ cause) × (cause ≤ 7)
 judge_causes b cause = cause_of (causes.table_causes b)
+
+-- Judging is judging the first three records, and then the rules behind them.
+pub judge_in_parts : (b : List ℕ) → judge b ≡ judge_head b >>= judge_behind
+judge_in_parts = judging.judge_in_parts
 
 -- Encoding what was judged gives the same bytes back.
 pub encode_judged : (b : List ℕ) (A : Automaton) → ((i : ℕ) → get_or b i 0 < 256) → judge b ≡ found A → encode A ≡ b
@@ -49,18 +55,18 @@ table_length b A bytes e =
     (encoding.encode_length A (judged_well_formed b A e))
 
 -- The arrays that decoding fills hold the automaton.
-pub decoded_means : (b : List ℕ) (r : Decoded) (size : Size) (ranks rows : List ℕ) → Decodes (judge b) r ranks rows
-    → r.judged ≡ Table size → judge b ≡ found (automaton_in size r.finals.words ranks rows)
+pub decoded_means : (b : List ℕ) (r : Result Decoded Refusal) (d : Decoded) (ranks rows : List ℕ) → Decodes (judge b) r ranks rows
+    → r ≡ Ok d → judge b ≡ found (automaton_in d.size d.finals.words ranks rows)
 decoded_means = meaning.decoded_means
 
 -- What `decode` returns for a table that it does not refuse can be written, and is then the table's own bytes.
-pub decoded_writable : (b : List ℕ) (r : Decoded) (size : Size) (ranks rows : List ℕ) → Decodes (judge b) r ranks rows
-    → r.judged ≡ Table size
-    → (size.symbols ≤ length ranks) × (Rows rows size.rules × WellFormed (automaton_in size r.finals.words ranks rows))
+pub decoded_writable : (b : List ℕ) (r : Result Decoded Refusal) (d : Decoded) (ranks rows : List ℕ) → Decodes (judge b) r ranks rows
+    → r ≡ Ok d
+    → (d.size.symbols ≤ length ranks) × (Rows rows d.size.rules × WellFormed (automaton_in d.size d.finals.words ranks rows))
 decoded_writable = meaning.decoded_writable
 
-pub decoded_encodes : (b : List ℕ) (r : Decoded) (size : Size) (ranks rows : List ℕ) → ((i : ℕ) → get_or b i 0 < 256)
-    → Decodes (judge b) r ranks rows → r.judged ≡ Table size → encode (automaton_in size r.finals.words ranks rows) ≡ b
+pub decoded_encodes : (b : List ℕ) (r : Result Decoded Refusal) (d : Decoded) (ranks rows : List ℕ) → ((i : ℕ) → get_or b i 0 < 256)
+    → Decodes (judge b) r ranks rows → r ≡ Ok d → encode (automaton_in d.size d.finals.words ranks rows) ≡ b
 decoded_encodes = meaning.decoded_encodes
 
 -- Writing with too little room leaves the output.

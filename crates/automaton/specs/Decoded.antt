@@ -5,7 +5,9 @@ use Rattle.sets.specs.Set.{member}
 use Rattle.records.specs.Read.{Read, found, map_read}
 use Rattle.automaton.specs.Automaton.{Automaton}
 use Rattle.automaton.specs.Row.{rules_in, Rows}
-use Rattle.automaton.specs.Answers.{judgement_of}
+use Rattle.std.specs.Prelude.{Result, Ok}
+use Rattle.records.specs.Answers.{reading_of}
+use Rattle.records.specs.declared.refusal.Refusal.{Refusal}
 use Rattle.automaton.specs.declared.table.Size.{Size}
 use Rattle.automaton.specs.declared.decoding.Decoded.{Decoded}
 
@@ -26,7 +28,7 @@ automaton_in size finals ranks rows = record {
 }
 
 -- Decoding what was read of some bytes: the answer and, unless they are refused, arrays that hold the automaton.
-pub record Decodes (read : Read Automaton) (r : Decoded) (ranks rows : List ℕ) : Type 0 where
-  pub answer : judgement_of r.judged ≡ sized read
-  pub holds : (A : Automaton) → read ≡ found A → automaton_in (size_of A) r.finals.words ranks rows ≡ A
-  pub rows_hold : (A : Automaton) → read ≡ found A → Rows rows (length A.rules)
+pub record Decodes (read : Read Automaton) (r : Result Decoded Refusal) (ranks rows : List ℕ) : Type 0 where
+  pub answer : map_read (λ (d : Decoded). d.size) (reading_of r) ≡ sized read
+  pub holds : (d : Decoded) → r ≡ Ok d → read ≡ found (automaton_in d.size d.finals.words ranks rows)
+  pub rows_hold : (d : Decoded) → r ≡ Ok d → Rows rows d.size.rules

@@ -1,4 +1,3 @@
-pub mod Answers
 pub mod Automaton
 pub mod Row
 pub mod Decoded

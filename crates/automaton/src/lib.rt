@@ -8,12 +8,12 @@ mod table;
 mod writing;
 
 // Calls for everybody, with their answers: they ask nothing of their caller. Those on records are passed on.
-pub use records::{Opened, Refusal, body, number, open};
-pub use table::{Judged, Size, judge};
+pub use records::{Opened, Refusal, body, open};
+pub use table::{Size, judge};
 
 // Exported for the crates above: these ask for numbers or arrays in range.
 pub use decoding::{Decoded, decode};
 pub use row::{
     FEW_ROWS, ROWS, children_of, children_of_rank, move_row, rename_row, symbol_of, target_of,
 };
-pub use writing::{Written, write};
+pub use writing::write;

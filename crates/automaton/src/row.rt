@@ -59,10 +59,8 @@ pub fn put_row(b: &[u8], rows: &mut [u8], i: usize)
     rows[WIDTH * i] = b[0];
     rows[WIDTH * i + 1] = b[2];
     rows[WIDTH * i + 2] = rank as u8;
-    let mut j: usize = 0;
-    while j < rank {
+    for j in 0..rank {
         rows[WIDTH * i + 3 + j] = b[4 + 2 * j];
-        j += 1;
     }
 }
 
@@ -71,11 +69,7 @@ pub fn move_row(rows: &mut [u8], i: usize, j: usize)
     requires { Row rows.old i × (j ≤ i) }
     ensures { Puts rows.old rows.new j (rule_at rows.old i) }
 {
-    let mut c: usize = 0;
-    while c < WIDTH {
-        rows[WIDTH * j + c] = rows[WIDTH * i + c];
-        c += 1;
-    }
+    rows.copy_within(WIDTH * i..WIDTH * i + WIDTH, WIDTH * j);
 }
 
 // Gives the target and the children of rule i their new names.
@@ -87,10 +81,8 @@ pub fn rename_row(rows: &mut [u8], i: usize, names: &[u8])
     let target = rows[WIDTH * i + 1] as usize;
     let rank = rows[WIDTH * i + 2] as usize;
     rows[WIDTH * i + 1] = names[target];
-    let mut j: usize = 0;
-    while j < rank {
+    for j in 0..rank {
         let q = rows[WIDTH * i + 3 + j] as usize;
         rows[WIDTH * i + 3 + j] = names[q];
-        j += 1;
     }
 }

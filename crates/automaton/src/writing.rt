@@ -10,19 +10,12 @@ ghost use Rattle.automaton.specs.Automaton.{WellFormed};
 ghost use Rattle.automaton.specs.Table.{encode, encode_rule, encode_rules};
 ghost use Rattle.automaton.specs.Row.{rule_at, rules_in, Row, Rows};
 ghost use Rattle.automaton.specs.Decoded.{automaton_in};
-ghost use Rattle.automaton.specs.Answers.{writing_of};
+ghost use Rattle.records.specs.Answers.{reading_of};
 
 use crate::row::{children_of, symbol_of, target_of};
 use crate::table::Size;
-use records::{Refusal, put_bytes, put_fields, put_head, put2};
+use records::{Kind, Refusal, put_bytes, put_fields, put_head, put2};
 use sets::StateSet;
-
-// The length that was written, or the refusal.
-#[derive(Clone, Copy)]
-pub enum Written {
-    Bytes(usize),
-    Refused(Refusal),
-}
 
 // State q as two bytes if it is in the set; the answer is where the next one goes.
 fn put_state(out: &mut [u8], at: usize, set: StateSet, q: u8) -> usize
@@ -44,10 +37,8 @@ fn put_states(out: &mut [u8], at: usize, set: StateSet, n: usize)
     ensures { out.new ≡ over out.old at (fields (keep (member set.words) (from 0 n))) }
 {
     let mut next = at;
-    let mut q: usize = 0;
-    while q < n {
+    for q in 0..n {
         next = put_state(out, next, set, q as u8);
-        q += 1;
     }
 }
 
@@ -57,12 +48,10 @@ fn count_states(set: StateSet, n: usize) -> usize
     ensures { result ≡ length (keep (member set.words) (from 0 n)) }
 {
     let mut count: usize = 0;
-    let mut q: usize = 0;
-    while q < n {
+    for q in 0..n {
         if set.has(q as u8) {
             count += 1;
         }
-        q += 1;
     }
     count
 }
@@ -75,7 +64,7 @@ fn put_rule(out: &mut [u8], at: usize, rows: &[u8], i: usize) -> usize
     ensures out_after { out.new ≡ over out.old at (encode_rule (rule_at rows.now i)) }
 {
     let children = children_of(rows, i);
-    put_head(out, at, 4, 4 + 2 * children.len());
+    put_head(out, at, Kind::Rule, 4 + 2 * children.len());
     put2(out, at + 6, symbol_of(rows, i) as u16);
     put2(out, at + 8, target_of(rows, i) as u16);
     put_fields(out, at + 10, children);
@@ -89,10 +78,8 @@ fn rules_length(rows: &[u8], k: usize) -> usize
     ensures upper_bound { result ≤ 26 * k }
 {
     let mut total: usize = 0;
-    let mut i: usize = 0;
-    while i < k {
+    for i in 0..k {
         total += 10 + 2 * children_of(rows, i).len();
-        i += 1;
     }
     total
 }
@@ -104,10 +91,8 @@ fn put_rules(out: &mut [u8], at: usize, rows: &[u8], k: usize)
     ensures { out.new ≡ over out.old at (encode_rules (rules_in rows.now k)) }
 {
     let mut next = at;
-    let mut i: usize = 0;
-    while i < k {
+    for i in 0..k {
         next = put_rule(out, next, rows, i);
-        i += 1;
     }
 }
 
@@ -118,7 +103,7 @@ fn put_size(out: &mut [u8], size: Size)
     ensures { out.new ≡ over out.old 0
         (encode_record 1 (fields (size.states ∷ size.symbols ∷ size.rules ∷ []))) }
 {
-    put_head(out, 0, 1, 6);
+    put_head(out, 0, Kind::Size, 6);
     put2(out, 6, size.states as u16);
     put2(out, 8, size.symbols as u16);
     put2(out, 10, size.rules as u16);
@@ -130,8 +115,8 @@ fn put_ranks(out: &mut [u8], at: usize, ranks: &[u8], m: usize)
     requires m_in_bounds { at + 6 + m ≤ length out.old }
     ensures { out.new ≡ over out.old at (encode_record 2 (take m ranks.now)) }
 {
-    put_head(out, at, 2, m);
-    put_bytes(out, at + 6, ranks, m);
+    put_head(out, at, Kind::Ranks, m);
+    put_bytes(out, at + 6, &ranks[..m]);
 }
 
 // The third record: the states below n that are in the set, of which there are `count`.
@@ -142,17 +127,23 @@ fn put_finals(out: &mut [u8], at: usize, set: StateSet, n: usize, count: usize)
     ensures { out.new ≡ over out.old at
         (encode_record 3 (fields (keep (member set.words) (from 0 n)))) }
 {
-    put_head(out, at, 3, 2 * count);
+    put_head(out, at, Kind::Finals, 2 * count);
     put_states(out, at + 6, set, n);
 }
 
 // Writes a decoded table to the start of `out` and returns its length; refusal 13, and nothing written, where the room is short.
 // The arrays must hold a well-formed automaton, as `decode` leaves them; states of the set that are not below `size.states` are none.
-pub fn write(size: Size, finals: StateSet, ranks: &[u8], rows: &[u8], out: &mut [u8]) -> Written
+pub fn write(
+    size: Size,
+    finals: StateSet,
+    ranks: &[u8],
+    rows: &[u8],
+    out: &mut [u8],
+) -> Result<usize, Refusal>
     requires symbols_in_bounds { size.symbols ≤ length ranks.now }
     requires rows { Rows rows.now size.rules }
     requires well_formed { WellFormed (automaton_in size finals.words ranks.now rows.now) }
-    ensures result_value { writing_of result
+    ensures result_value { reading_of result
         ≡ written (encode (automaton_in size finals.words ranks.now rows.now)) out.old }
     ensures out_after { out.new
         ≡ written_over (encode (automaton_in size finals.words ranks.now rows.now)) out.old }
@@ -163,11 +154,11 @@ pub fn write(size: Size, finals: StateSet, ranks: &[u8], rows: &[u8], out: &mut 
     let count = count_states(finals, n);
     let length = 24 + m + 2 * count + rules_length(rows, k);
     if out.len() < length {
-        return Written::Refused(Refusal::ShortOutput);
+        return Err(Refusal::ShortOutput);
     }
     put_size(out, size);
     put_ranks(out, 12, ranks, m);
     put_finals(out, 18 + m, finals, n, count);
     put_rules(out, 24 + m + 2 * count, rows, k);
-    Written::Bytes(length)
+    Ok(length)
 }

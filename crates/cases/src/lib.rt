@@ -1,35 +1,55 @@
-// What the programs of worked examples share: the fields of a case from a reader, a checksum, and output to a writer.
+// What the programs of worked examples share: the cases of a reader and their fields, a checksum, and lines to a writer.
 #![tactic(auto)]
 
-ghost use Rattle.std.specs.Prelude.{◌≤◌, ◌<◌, ◌∷◌, [], IfOk, OnOk, length, take};
-ghost use Rattle.std.specs.Fmt.{decimal};
+ghost use Rattle.std.specs.Prelude.{◌≡◌, ◌≤◌, ◌<◌, ◌∷◌, ◌++◌, [], None, IfOk, IfSome, OnOk, EachIndex, length, slice_index, fold, take};
 ghost use Rattle.std.specs.Io.KnownBytes.{Appends, Consumes, IsAtEnd};
+ghost use Rattle.cases.specs.Checksum.{more};
+ghost use Rattle.cases.specs.Field.{IsNumber, IsField, IsNoField};
+ghost use Rattle.cases.specs.Line.{spaced};
 
+use std::fmt::Display;
 use std::io;
 use std::io::{Read, Write};
 
-// What `number` returns where the input has ended: more than any number.
-pub const ENDED: usize = 4294967296;
-
-// The next number of the input, of `width` bytes, one to four, little-endian; ENDED where the input has ended.
-pub fn number<R: Read>(input: &mut R, width: usize) -> io::Result<usize>
-    ensures { IfOk result (λ n. n ≤ 4294967296) }
+// Reads the cases of `input` one after the other. It writes the line that names a case and then calls `case`, until the input ends,
+// `case` returns false, or a million cases are done.
+pub fn run<R: Read, W: Write, F: FnMut(&mut R, &mut W) -> io::Result<bool>>(
+    input: &mut R,
+    out: &mut W,
+    mut case: F,
+) -> io::Result<()>
+    requires { F.IsAlwaysCallable case }
 {
-    let mut b = [0u8; 4];
-    if width > 4 {
-        return Ok(ENDED);
+    for _ in 0..1000000 {
+        if !next_case(input, out)? || !case(input, out)? {
+            break;
+        }
     }
-    let got = read_full(input, &mut b[..width])?;
-    if got < width {
-        return Ok(ENDED);
-    }
-    Ok(wide(b[0]) + 256 * wide(b[1]) + 65536 * wide(b[2]) + 16777216 * wide(b[3]))
+    Ok(())
 }
 
-fn wide(x: u8) -> usize
-    ensures { result < 256 }
+// The next case's name, and the line that names it: false where the input has ended.
+fn next_case<R: Read, W: Write>(input: &mut R, out: &mut W) -> io::Result<bool> {
+    let mut name = [0u8; 255];
+    let Some(length) = next_field(input, 1, &mut name)? else {
+        return Ok(false);
+    };
+    out.write_all(b"case ")?;
+    out.write_all(&name[..length])?;
+    out.write_all(b"\n")?;
+    Ok(true)
+}
+
+// The next number of the input, of `width` bytes, one to four, little-endian; none where the input has ended.
+pub fn number<R: Read>(input: &mut R, width: usize) -> io::Result<Option<u32>>
+    ensures number { IfOk result (λ found. IfSome found (IsNumber width (R.remaining input.old) (R.remaining input.new))) }
+    ensures end { IfOk result (λ found. found ≡ None → width ≤ 4 → IsAtEnd (R.remaining input.new)) }
 {
-    x as usize
+    let mut bytes = [0u8; 4];
+    if width > bytes.len() || read_full(input, &mut bytes[..width])? < width {
+        return Ok(None);
+    }
+    Ok(Some(u32::from_le_bytes(bytes)))
 }
 
 // Reads until `buf` is full or the input ends, and returns how many bytes it put at the start of `buf`.
@@ -49,79 +69,70 @@ pub fn read_full<R: Read>(input: &mut R, buf: &mut [u8]) -> io::Result<usize>
     Ok(done)
 }
 
-// Whether a field was there whole, and how many of its bytes were.
-#[derive(Clone, Copy)]
-pub struct Field {
-    pub there: bool,
-    pub length: usize,
+// The next field of the input, a number of `width` bytes and then as many bytes, at the start of `buf`: its length, or none where the
+// input has ended or `buf` is too short.
+pub fn next_field<R: Read>(input: &mut R, width: usize, buf: &mut [u8]) -> io::Result<Option<usize>>
+    ensures bound { IfOk result (λ found. IfSome found (λ n. n ≤ length buf.new)) }
+    ensures field { IfOk result (λ found. IfSome found (IsField width (R.remaining input.old) (R.remaining input.new) buf.new)) }
+    ensures none { IfOk result (λ found. found ≡ None → width ≤ 4 → IsNoField width (R.remaining input.old) (R.remaining input.new) (length buf.old)) }
+{
+    let Some(length) = number(input, width)? else {
+        return Ok(None);
+    };
+    let length = length as usize;
+    if length > buf.len() || read_full(input, &mut buf[..length])? < length {
+        return Ok(None);
+    }
+    Ok(Some(length))
 }
 
-// The next field of the input, a number of `width` bytes and then as many bytes, at the start of `buf`. It is not there where the
-// input has ended or `buf` is too short.
-pub fn next_field<R: Read>(input: &mut R, width: usize, buf: &mut [u8]) -> io::Result<Field>
-    ensures { IfOk result (λ field. field.length ≤ length buf.new) }
-{
-    let n = number(input, width)?;
-    if n > buf.len() {
-        return Ok(Field {
-            there: false,
-            length: 0,
-        });
-    }
-    let got = read_full(input, &mut buf[..n])?;
-    Ok(Field {
-        there: got == n,
-        length: got,
-    })
-}
+// The checksums are below this number, a prime.
+pub const MODULUS: u64 = 4294967291;
 
 // The checksum `sum` with a byte more.
 pub fn add(sum: u64, b: u8) -> u64
-    requires { sum < 4294967291 }
-    ensures { result < 4294967291 }
+    requires { sum < MODULUS }
+    ensures bound { result < MODULUS }
+    ensures value { result ≡ more sum b }
 {
-    (sum * 257 + b as u64 + 1) % 4294967291
+    (sum * 257 + u64::from(b) + 1) % MODULUS
 }
 
 // The checksum `sum` with the bytes of `b` more.
-pub fn add_all(sum: u64, b: &[u8]) -> u64
-    requires { sum < 4294967291 }
-    ensures { result < 4294967291 }
+pub fn add_all(mut sum: u64, b: &[u8]) -> u64
+    requires { sum < MODULUS }
+    ensures bound { result < MODULUS }
+    ensures value { result ≡ fold more sum b.now }
 {
-    let mut s = sum;
     for x in b {
-        s = add(s, *x);
+        sum = add(sum, *x);
     }
-    s
+    sum
 }
 
-pub fn write_word<W: Write>(out: &mut W, b: &[u8]) -> io::Result<()>
-    ensures { OnOk result (Appends (W.contents out.old) (W.contents out.new) b.now) }
+// A line: a word, each value after a space, and the line's end.
+pub fn line<W: Write, T: Display>(out: &mut W, word: &[u8], values: &[T]) -> io::Result<()>
+    ensures { OnOk result (IfSome (spaced T.output values.now) (λ text. Appends (W.contents out.old) (W.contents out.new) (word.now ++ text ++ (10 ∷ [])))) }
 {
-    out.write_all(b)
-}
-
-// A space and a number.
-pub fn write_number<W: Write>(out: &mut W, n: usize) -> io::Result<()>
-    ensures { OnOk result (Appends (W.contents out.old) (W.contents out.new) (32 ∷ decimal n)) }
-{
-    write!(out, " {n}")
-}
-
-pub fn end_line<W: Write>(out: &mut W) -> io::Result<()>
-    ensures { OnOk result (Appends (W.contents out.old) (W.contents out.new) (10 ∷ [])) }
-{
+    out.write_all(word)?;
+    write_spaced(out, values)?;
     out.write_all(b"\n")
 }
 
-// The next case's name, and the line that names it: false where the input has ended.
-pub fn next_case<R: Read, W: Write>(input: &mut R, out: &mut W) -> io::Result<bool> {
-    let mut name = [0u8; 4096];
-    let f = next_field(input, 1, &mut name)?;
-    if f.there {
-        write_word(out, b"case ")?;
-        write_word(out, &name[..f.length])?;
-        end_line(out)?;
+// Each value after a space.
+pub fn write_spaced<W: Write, T: Display>(out: &mut W, values: &[T]) -> io::Result<()>
+    ensures { OnOk result (IfSome (spaced T.output values.now) (Appends (W.contents out.old) (W.contents out.new))) }
+{
+    for value in values {
+        write!(out, " {value}")?;
     }
-    Ok(f.there)
+    Ok(())
+}
+
+// An array that is full of the byte 170.
+pub fn filled<const N: usize>() -> [u8; N]
+    ensures length { N ≡ length result }
+    ensures bytes { EachIndex result (λ k. slice_index result k ≡ 170) }
+{
+    [170; N]
 }

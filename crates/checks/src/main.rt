@@ -3,45 +3,28 @@
 // A case: its name, after a byte of length; the table and the tree, each after four bytes of length; the counts, four bytes each.
 #![tactic(auto)]
 
-use automaton::number;
-use cases::{end_line, write_number, write_word};
-use simulation::{Answer, Counts};
+use automaton::Refusal;
+use cases::line;
+use simulation::{Answer, Counts, Subtree};
 use std::io;
 use std::io::{Read, Write};
 
 fn main(rt: HostRuntime) -> io::Result<()> {
-    let mut input = rt.stdin();
-    let mut out = rt.stdout();
-    for _ in 0..1000000 {
-        if !one(&mut input, &mut out)? {
-            break;
-        }
-    }
-    Ok(())
+    cases::run(&mut rt.stdin(), &mut rt.stdout(), one)
 }
 
-// The next case: false where the input has ended.
+// What follows a case's name: false where the input has ended.
 fn one<R: Read, W: Write>(input: &mut R, out: &mut W) -> io::Result<bool> {
-    if !cases::next_case(input, out)? {
-        return Ok(false);
-    }
     let mut table = [0u8; 65536];
-    let table_field = cases::next_field(input, 4, &mut table)?;
-    if !table_field.there {
+    let Some(table_length) = cases::next_field(input, 4, &mut table)? else {
         return Ok(false);
-    }
+    };
     let mut tree = [0u8; 65536];
-    let tree_field = cases::next_field(input, 4, &mut tree)?;
-    if !tree_field.there {
+    let Some(tree_length) = cases::next_field(input, 4, &mut tree)? else {
         return Ok(false);
-    }
+    };
     let before = counts(input)?;
-    report(
-        out,
-        before,
-        &table[..table_field.length],
-        &tree[..tree_field.length],
-    )?;
+    report(out, before, &table[..table_length], &tree[..tree_length])?;
     Ok(true)
 }
 
@@ -55,29 +38,24 @@ fn counts<R: Read>(input: &mut R) -> io::Result<Counts> {
 
 // The next count; 0 where the input has ended.
 fn count<R: Read>(input: &mut R) -> io::Result<u32> {
-    let n = cases::number(input, 4)?;
-    Ok(u32::try_from(n).unwrap_or(0))
+    Ok(cases::number(input, 4)?.unwrap_or(0))
 }
 
 fn report<W: Write>(out: &mut W, counts: Counts, table: &[u8], tree: &[u8]) -> io::Result<()> {
     let checked = simulation::check(counts, table, tree);
-    match checked.answer {
-        Answer::Accepted => write_word(out, b"accepted")?,
-        Answer::Rejected { node, size } => {
-            write_word(out, b"rejected")?;
-            write_number(out, node)?;
-            write_number(out, size)?;
-        }
-        Answer::Refused(cause) => {
-            write_word(out, b"refused")?;
-            write_number(out, number(cause) as usize)?;
-        }
-    }
-    end_line(out)?;
+    write_answer(out, checked.answer)?;
     let after = checked.counts;
-    write_word(out, b"counts")?;
-    write_number(out, after.accepted as usize)?;
-    write_number(out, after.rejected as usize)?;
-    write_number(out, after.refused as usize)?;
-    end_line(out)
+    line(
+        out,
+        b"counts",
+        &[after.accepted, after.rejected, after.refused],
+    )
+}
+
+fn write_answer<W: Write>(out: &mut W, answer: Result<Answer, Refusal>) -> io::Result<()> {
+    match answer {
+        Ok(Answer::Accepted) => out.write_all(b"accepted\n"),
+        Ok(Answer::Rejected(Subtree { node, size })) => line(out, b"rejected", &[node, size]),
+        Err(cause) => line(out, b"refused", &[u32::from(cause)]),
+    }
 }

@@ -1,15 +1,18 @@
--- Laws of `exported` for every exported function: the three ways in which its proof ends (too few numbers, a refusal, something found), and
+-- Laws of `exported` for every exported function: the ways in which its proof ends (too few numbers, a refusal, something found, `answer`), and
 -- that a call which does not do its work leaves what it was lent. The functions' proofs, ReturnCodes and Theorems use them.
 use Prim.Native.Nat.{ℕ, ◌≤◌, ◌<◌}
-use mathlib.Core.Path.{◌≡◌, refl}
+use mathlib.Core.Path.{◌≡◌, refl, ap, ◌∙◌}
 use mathlib.Core.Bool.{Bool, true, false, cond}
 use mathlib.Core.List.{List, ◌++◌}
 use lib.ListN.{length, drop}
 use lib.Dec.{leb}
+use Rattle.std.specs.Prelude.{Result, Ok, Err, IsOkAnd, MatchResult}
 use borrow.Author.Tests.{le-leb, lt-leb}
+use Rattle.records.specs.Answers.{reading_of}
 use Rattle.records.specs.Read.{Read, found, refused}
+use Rattle.records.specs.declared.refusal.Refusal.{Refusal}
 use Rattle.records.proofs.Buffers.{Keeps}
-use Rattle.fensullay.specs.Exports.{Exported, ended, exported, done}
+use Rattle.fensullay.specs.Exports.{Exported, ended, exported, done, answered}
 
 -- What a function returned and left is what is said of the call.
 abbrev pub Gives : Exported → ℕ → List ℕ → List ℕ → Type 0
@@ -34,6 +37,20 @@ module _ {A : Type 0} {need : ℕ} (code_of : A → ℕ) (numbers_of : A → Lis
       → Gives (exported need code_of numbers_of x numbers out after) (code_of a) numbers' out'
   unfolding ended
   found_with h e put over = rw (enough_room h, ← e, put, over) (refl, (refl, refl))
+
+-- The end by `answer`, where what was found is made into values.
+module _ {A : Type 0} {need : ℕ} (numbers_of : A → List ℕ) (numbers out : List ℕ) (room : need ≤ length numbers) where
+  pub answered_with : (r : Result A Refusal) (values : Result (List ℕ) Refusal)
+      → MatchResult r (λ (a : A). IsOkAnd values (λ (vs : List ℕ). vs ≡ numbers_of a)) (λ (cause : Refusal). values ≡ Err cause)
+      → {x : Read A} {after numbers' out' : List ℕ} {code : ℕ} → reading_of r ≡ x → code ≡ (answered values numbers).code
+      → numbers' ≡ (answered values numbers).numbers → out' ≡ after → Gives (exported need done numbers_of x numbers out after) code numbers' out'
+  unfolding answered ended done reading_of
+  answered_with (Ok a) (Ok vs) made is e put over =
+      let put = put ∙ ap (λ (ws : List ℕ). ws ++ drop (length ws) numbers) made in
+      rw e (found_with done numbers_of _ numbers out _ room is put over)
+  answered_with (Ok a) (Err cause) made is e put over = absurd made
+  answered_with (Err cause) values made is e put over =
+      rw (rw made at put) (refused_with done numbers_of _ numbers out _ room is (rw made at e) over)
 
 -- The code and the numbers do not depend on the output.
 module _ {A : Type 0} (need : ℕ) (code_of : A → ℕ) (numbers_of : A → List ℕ) (x : Read A) (numbers : List ℕ) where

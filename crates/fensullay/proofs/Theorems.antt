@@ -154,7 +154,7 @@ report_short = reports.report_short
 pub reduced_demand_3 : (table out numbers out' numbers' : List ℕ) → ((i : ℕ) → get_or table i 0 < 256)
     → (reducing table out numbers).code ≡ 0 → numbers' ≡ (reducing table out numbers).numbers → out' ≡ (reducing table out numbers).out
     → (r : Reduction) × (numbers' ≡ reduction_numbers r ++ drop 6 numbers) × Demand3 table out r (take r.length out')
-unfolding reducing ended reduction_numbers
+unfolding reducing ended
 reduced_demand_3 table out numbers out' numbers' bytes code after over =
     let (enough, finding) = (reduce_means table out numbers).done.0 code in
     let (r, e) = finding in

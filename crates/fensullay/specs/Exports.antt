@@ -1,14 +1,17 @@
 -- What the exported functions return and what they leave in the lent arrays, from what stands in the arrays before the call.
-use Rattle.std.specs.Prelude.{ℕ, ◌≡◌, Bool, true, false, cond, List, [], ◌∷◌, ◌++◌, length, drop, get_or, leb}
+use Rattle.std.specs.Prelude.{ℕ, ◌≡◌, Result, Bool, true, false, cond, List, [], ◌∷◌, ◌++◌, length, drop, get_or, leb}
+use Rattle.records.specs.Answers.{reading_of}
 use Rattle.records.specs.Read.{Read, found, refused}
 use Rattle.records.specs.Output.{written, written_over}
+use Rattle.records.specs.declared.refusal.Refusal.{Refusal}
 use Rattle.automaton.specs.Automaton.{Automaton}
 use Rattle.automaton.specs.Table.{judge}
 use Rattle.automaton.specs.Decoded.{sized}
 use Rattle.automaton.specs.declared.table.Size.{Size}
 use Rattle.trees.specs.Subtree.{Finding, accepted, rejected}
 use Rattle.simulation.specs.Check.{acceptance, finding, counted}
-use Rattle.simulation.specs.Query.{RoundsAndPairs, relation_query, relation_after, pair_query, Unmatched}
+use Rattle.simulation.specs.declared.query.Related.{Related}
+use Rattle.simulation.specs.Query.{relation_query, relation_after, pair_query, Unmatched}
 use Rattle.simulation.specs.declared.checking.Counts.{Counts}
 use Rattle.reduction.specs.Reduce.{reduction, reduction_after}
 use Rattle.reduction.specs.declared.reducing.Reduction.{Reduction}
@@ -38,6 +41,10 @@ exported need code_of numbers_of x numbers out after =
 unfoldable pub done : {A : Type 0} → A → ℕ
 done a = 0
 
+-- The end of a call whose work gives the numbers themselves, or a refusal.
+unfoldable pub answered : Result (List ℕ) Refusal → List ℕ → Exported
+answered r numbers = ended done (λ (values : List ℕ). values) (reading_of r) numbers []
+
 -- The code of the answer to a question, which may be a refusal: 0 for yes, 101 for no.
 unfoldable pub yes_no : Read Bool → ℕ
 yes_no (found true) = 0
@@ -45,8 +52,11 @@ yes_no (found false) = 101
 yes_no (refused cause) = cause
 
 -- Judging: states, symbols, rules.
+abbrev pub size_numbers : Size → List ℕ
+size_numbers s = s.states ∷ s.symbols ∷ s.rules ∷ []
+
 unfoldable pub judging : List ℕ → List ℕ → Exported
-judging table numbers = exported 3 done (λ (s : Size). s.states ∷ s.symbols ∷ s.rules ∷ []) (sized (judge table)) numbers [] []
+judging table numbers = exported 3 done size_numbers (sized (judge table)) numbers [] []
 
 -- Checking: the counts accepted, not accepted, refused, as they are lent and afterwards; a refusal is counted too. `exported` has seen that
 -- there are three.
@@ -71,9 +81,11 @@ checking counts table tree numbers =
     (record { code = 100; numbers = counts; out = numbers })
 
 -- The relation query: rounds, pairs; and the rows in `out`.
+abbrev pub relation_numbers : Related → List ℕ
+relation_numbers r = r.rounds ∷ r.pairs ∷ []
+
 unfoldable pub relating : List ℕ → List ℕ → List ℕ → Exported
-relating table out numbers =
-    exported 2 done (λ (r : RoundsAndPairs). r.rounds ∷ r.pairs ∷ []) (relation_query table out) numbers out (relation_after (judge table) out)
+relating table out numbers = exported 2 done relation_numbers (relation_query table out) numbers out (relation_after (judge table) out)
 
 -- The pair query: yes; or no, and the number of some rule of q that no rule of r matches.
 unfoldable pub compare_code : List ℕ → ℕ → ℕ → List ℕ → ℕ
@@ -86,7 +98,7 @@ pub record ComparesInto (table : List ℕ) (q r : ℕ) (numbers : List ℕ) (cod
   pub otherwise : (code ≡ 101 → ⊥) → numbers' ≡ numbers
 
 -- Reducing: the length, the old and new states, the old and new rules, the rounds of step 2; and the reduced table in `out`.
-unfoldable pub reduction_numbers : Reduction → List ℕ
+abbrev pub reduction_numbers : Reduction → List ℕ
 reduction_numbers r = r.length ∷ r.old.states ∷ r.new.states ∷ r.old.rules ∷ r.new.rules ∷ r.rounds ∷ []
 
 unfoldable pub reducing : List ℕ → List ℕ → List ℕ → Exported

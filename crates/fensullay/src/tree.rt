@@ -2,9 +2,8 @@
 ghost use Rattle.std.specs.Prelude.{◌≡◌};
 ghost use Rattle.fensullay.specs.Exports as spec;
 
-use crate::numbers::{put_all, put_counts};
-use automaton::number;
-use simulation::{Answer, Counts, check};
+use crate::numbers::{NO, OK, SHORT_ARRAY, put_all, put_counts};
+use simulation::{Answer, Counts, Subtree, check};
 
 // Checks a tree against a table: 0 accepted; 101 not accepted, and in `numbers` the subtree to look at, its top node and how many nodes it has; or the
 // refusal, 1 to 11. One more of that answer in `counts`, which are accepted, not accepted, refused. Or 100 where `counts` has fewer than 3, or
@@ -22,11 +21,8 @@ pub extern "C" fn fensullay_check(
     ensures numbers_after { numbers.new
         ≡ (spec.checking counts.old table.now tree.now numbers.old).out }
 {
-    if counts.len() < 3 {
-        return 100;
-    }
-    if numbers.len() < 2 {
-        return 100;
+    if counts.len() < 3 || numbers.len() < 2 {
+        return SHORT_ARRAY;
     }
     let old = Counts {
         accepted: counts[0],
@@ -34,15 +30,13 @@ pub extern "C" fn fensullay_check(
         refused: counts[2],
     };
     let checked = check(old, table, tree);
-    let new = checked.counts;
-    let answer = checked.answer;
-    put_counts(counts, new);
-    match answer {
-        Answer::Accepted => 0,
-        Answer::Rejected { node, size } => {
+    put_counts(counts, checked.counts);
+    match checked.answer {
+        Ok(Answer::Accepted) => OK,
+        Ok(Answer::Rejected(Subtree { node, size })) => {
             put_all(numbers, &[node, size]);
-            101
+            NO
         }
-        Answer::Refused(cause) => number(cause),
+        Err(cause) => u32::from(cause),
     }
 }

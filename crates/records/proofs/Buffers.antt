@@ -1,7 +1,7 @@
 -- Fields and records written over a buffer; where there is room, and what a call that refuses leaves. From the laws of numbers written over an
 -- array; used by the code that writes fields, tables and relations.
 use Prim.Native.Nat.{ℕ, ◌+◌, ◌*◌, ◌/◌, ◌%◌, ◌≤◌, ◌<◌}
-use mathlib.Core.Path.{◌≡◌, refl, sym, ap, ap₂, ◌∙◌}
+use mathlib.Core.Path.{◌≡◌, refl, sym, ap, ◌∙◌}
 use mathlib.Core.List.{List, [], ◌∷◌, ◌++◌}
 use mathlib.Core.Bool.{Bool, true, false, cond}
 use native.Mathlib.Numerals.{add-one}
@@ -44,9 +44,10 @@ unfolding ◌>>◌
 then_keeps (found a) b keeps cause e = absurd (refused≢found (sym e))
 then_keeps (refused first) b keeps cause e = keeps first refl
 
-pub bytes4_halves : (v : ℕ) → bytes4 v ≡ bytes2 (v % 65536) ++ bytes2 (v / 65536)
+-- The four bytes of a number, each from the number itself.
+pub bytes4_each : (v : ℕ) → bytes4 v ≡ (v % 256) ∷ (v / 256 % 256) ∷ (v / 65536 % 256) ∷ (v / 16777216 % 256) ∷ []
 unfolding bytes4 bytes2
-bytes4_halves v = ap₂ (λ (low high : ℕ). low ∷ high ∷ bytes2 (v / 65536)) (omega arith) (omega arith)
+bytes4_each v = ap (λ (last : ℕ). (v % 256) ∷ (v / 256 % 256) ∷ (v / 65536 % 256) ∷ last ∷ []) (omega arith)
 
 pub fields_append : (us vs : List ℕ) → fields (us ++ vs) ≡ fields us ++ fields vs
 unfolding fields bytes2

@@ -7,7 +7,7 @@ pub fn number2(b: &[u8], at: usize) -> u16
     requires { at + 2 ≤ length b.now }
     ensures { result ≡ bytes.number2 (drop at b.now) }
 {
-    b[at] as u16 + 256 * (b[at + 1] as u16)
+    u16::from_le_bytes([b[at], b[at + 1]])
 }
 
 // The number in the first four bytes.
@@ -15,5 +15,5 @@ pub fn number4(b: &[u8]) -> usize
     requires { 4 ≤ length b.now }
     ensures { result ≡ bytes.number4 b.now }
 {
-    number2(b, 0) as usize + 65536 * (number2(b, 2) as usize)
+    u32::from_le_bytes([b[0], b[1], b[2], b[3]]) as usize
 }

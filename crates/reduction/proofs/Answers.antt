@@ -27,8 +27,7 @@ use Rattle.trees.specs.Postfix.{judge_tree}
 use Rattle.trees.proofs.Runs.{accepts_run, run_accepts}
 use Rattle.simulation.specs.Check.{acceptance}
 use Rattle.stages.specs.Steps.{reduce, reduction_rounds}
-use Rattle.reduction.specs.declared.reducing.Reduced.TheVariants as answers
-use Rattle.reduction.specs.Reduce.{reduction_of, reduction, reduction_after}
+use Rattle.reduction.specs.Reduce.{reduction, reduction_after}
 use Rattle.reduction.specs.declared.reducing.Reduction.{Reduction}
 
 -- What the call returns for an automaton that fits.
@@ -96,8 +95,8 @@ acceptance_same table other A B e f r there back tree =
 -- The call's answers: a table that is refused, and one whose reduced automaton is written or finds no room.
 
 pub reduce_refused : (table out : List ℕ) (cause : Refusal) → judge table ≡ refused (number_of cause)
-    → (reduction_of (answers.Refused cause) ≡ reduction table out) × (out ≡ reduction_after (judge table) out)
-unfolding reduction_of reduction reduction_after ◌>>=◌
+    → (refused (number_of cause) ≡ reduction table out) × (out ≡ reduction_after (judge table) out)
+unfolding reduction reduction_after ◌>>=◌
 reduce_refused table out cause e = rw e (refl, refl)
 
 module _ (table out after : List ℕ) (A B : Automaton) (e : judge table ≡ found A) (same : B ≡ reduce A)
@@ -107,12 +106,12 @@ module _ (table out after : List ℕ) (A B : Automaton) (e : judge table ≡ fou
   after_is = rw e (rw same at over)
 
   pub reduce_short : (cause : Refusal) → refused (number_of cause) ≡ written (encode B) out
-      → (reduction_of (answers.Refused cause) ≡ reduction table out) × (after ≡ reduction_after (judge table) out)
-  unfolding reduction_of reduction ◌>>=◌
+      → (refused (number_of cause) ≡ reduction table out) × (after ≡ reduction_after (judge table) out)
+  unfolding reduction ◌>>=◌
   reduce_short cause h = (rw (e, ← rw same at h), after_is)
 
   pub reduce_written : (r : Reduction) → found r.length ≡ written (encode B) out → r.old ≡ size_of A → r.new ≡ size_of B
       → r.rounds ≡ reduction_rounds A
-      → (reduction_of (answers.Table r) ≡ reduction table out) × (after ≡ reduction_after (judge table) out)
-  unfolding reduction_of reduction ◌>>=◌
+      → (found r ≡ reduction table out) × (after ≡ reduction_after (judge table) out)
+  unfolding reduction ◌>>=◌
   reduce_written r h old new rounds = (rw (e, ← rw same at h, old, rw same at new, rounds), after_is)

@@ -14,11 +14,12 @@ use Rattle.stages.specs.Steps.{numbered, reduce}
 use Rattle.stages.proofs.Sizes.{reduce_well_formed, reduce_shorter}
 use Rattle.stages.proofs.Agreement.{accepted_reduced, reduced_accepted, irreducible}
 use Rattle.stages.proofs.Fixpoint.{irreducible_fixed}
-use Rattle.reduction.specs.Reduce.{reduction_of, reduction, reduction_after}
+use Rattle.reduction.specs.Reduce.{reduction, reduction_after}
 use Rattle.reduction.specs.Demand3.{Again, Demand3, MeetsDemand3}
 use Rattle.reduction.specs.declared.reducing.Reduction.{Reduction}
-use Rattle.reduction.specs.declared.reducing.Reduced.{Reduced}
-use Rattle.reduction.specs.declared.reducing.Reduced.TheVariants.{Table, Refused}
+use Rattle.std.specs.Prelude.{Result, Ok, Err}
+use Rattle.records.specs.Answers.{reading_of}
+use Rattle.records.specs.declared.refusal.Refusal.{Refusal}
 use Rattle.reduction.proofs.Answers.{answer_for, reduction_fits, after_fits, written_bytes, found_fits, reduction_keeps}
 use Rattle.reduction.proofs.Answers.{acceptance_same}
 
@@ -84,9 +85,9 @@ demand_3 table out r bytes h =
     rw (answer, written_bytes table out A e fits) (demand_3_from table out A bytes e fits)
 
 -- What the call ensures, from its equations.
-pub promised : (table out after : List ℕ) (answer : Reduced) → ((i : ℕ) → get_or table i 0 < 256)
-    → (reduction_of answer ≡ reduction table out) × (after ≡ reduction_after (judge table) out)
-    → (reduction_of answer ≡ reduction table out) × ((after ≡ reduction_after (judge table) out) × MeetsDemand3 table out answer after)
-unfolding reduction_of MeetsDemand3
-promised table out after (Table r) bytes (h, o) = (h, (o, rw o (demand_3 table out r bytes (sym h))))
-promised table out after (Refused cause) bytes (h, o) = (h, (o, o ∙ reduction_keeps table out (number_of cause) (sym h)))
+pub promised : (table out after : List ℕ) (answer : Result Reduction Refusal) → ((i : ℕ) → get_or table i 0 < 256)
+    → (reading_of answer ≡ reduction table out) × (after ≡ reduction_after (judge table) out)
+    → (reading_of answer ≡ reduction table out) × ((after ≡ reduction_after (judge table) out) × MeetsDemand3 table out answer after)
+unfolding reading_of MeetsDemand3
+promised table out after (Ok r) bytes (h, o) = (h, (o, rw o (demand_3 table out r bytes (sym h))))
+promised table out after (Err cause) bytes (h, o) = (h, (o, o ∙ reduction_keeps table out (number_of cause) (sym h)))

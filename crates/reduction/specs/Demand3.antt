@@ -1,7 +1,9 @@
 -- Demand 3, of the bytes: what holds of a table that was reduced into `out`, of the call's answer r, and of the bytes that it wrote; and what
 -- the call promises.
 use Rattle.std.specs.Prelude.{ℕ, ◌≤◌, ◌≡◌, ◌↔◌, List, ◌++◌, length, take, drop}
+use Rattle.std.specs.Prelude.{Result, Ok, Err}
 use Rattle.records.specs.Read.{found}
+use Rattle.records.specs.declared.refusal.Refusal.{Refusal}
 use Rattle.automaton.specs.Automaton.{Automaton}
 use Rattle.automaton.specs.Table.{judge}
 use Rattle.automaton.specs.Decoded.{size_of}
@@ -10,10 +12,8 @@ use Rattle.trees.specs.Run.{Accepts}
 use Rattle.simulation.specs.Check.{acceptance}
 use Rattle.stages.specs.Steps.{reduction_rounds}
 use Rattle.stages.specs.Irreducible.{Irreducible}
-use Rattle.reduction.specs.declared.reducing.Reduced.TheVariants as answers
 use Rattle.reduction.specs.Reduce.{reduction, reduction_after}
 use Rattle.reduction.specs.declared.reducing.Reduction.{Reduction}
-use Rattle.reduction.specs.declared.reducing.Reduced.{Reduced}
 
 -- Handed in as the table, with some room, a table gives its own bytes and length, and loses no state, no symbol and no rule.
 pub record Again (bytes room : List ℕ) : Type 0 where
@@ -51,6 +51,6 @@ pub record Demand3 (table out : List ℕ) (r : Reduction) (bytes : List ℕ) : T
   pub again : (room : List ℕ) → length bytes ≤ length room → Again bytes room
 
 -- What the call promises of its answer and of the output afterwards: demand 3 of the bytes that it wrote; a refusal leaves the output.
-unfoldable pub MeetsDemand3 : List ℕ → List ℕ → Reduced → List ℕ → Type 0
-MeetsDemand3 table out (answers.Table r) after = Demand3 table out r (take r.length after)
-MeetsDemand3 table out (answers.Refused cause) after = after ≡ out
+unfoldable pub MeetsDemand3 : List ℕ → List ℕ → Result Reduction Refusal → List ℕ → Type 0
+MeetsDemand3 table out (Ok r) after = Demand3 table out r (take r.length after)
+MeetsDemand3 table out (Err cause) after = after ≡ out

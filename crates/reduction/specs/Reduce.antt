@@ -1,23 +1,14 @@
 -- Reduction: the six steps one after the other, and what the call returns.
 use Rattle.std.specs.Prelude.{ℕ, List}
-use Rattle.records.specs.Refusal.{number_of}
 use Rattle.records.specs.Read.{Read, found, refused, ◌>>=◌}
 use Rattle.records.specs.Output.{written, written_over}
 use Rattle.automaton.specs.Automaton.{Automaton}
 use Rattle.automaton.specs.Table.{judge, encode}
 use Rattle.automaton.specs.Decoded.{size_of}
 use Rattle.stages.specs.Steps.{reduce, reduction_rounds}
-use Rattle.reduction.specs.declared.reducing.Reduced.TheVariants as answers
 use Rattle.reduction.specs.declared.reducing.Reduction.{Reduction}
-use Rattle.reduction.specs.declared.reducing.Reduced.{Reduced}
 
--- The values and document 01's number for each case of the code's answer: the length, the old and new n, m and k, the rounds; or
--- the refusal.
-unfoldable pub reduction_of : Reduced → Read Reduction
-reduction_of (answers.Table r) = found r
-reduction_of (answers.Refused cause) = refused (number_of cause)
-
--- The table is judged before the output; 13 where that is shorter than the reduced table.
+-- The length, the old and new n, m and k, the rounds; or the refusal. The table is judged before the output; 13 where that is shorter than the reduced table.
 unfoldable pub reduction : List ℕ → List ℕ → Read Reduction
 reduction table out = do
   A ← judge table

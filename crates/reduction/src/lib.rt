@@ -9,7 +9,7 @@ mod rows;
 mod steps;
 
 // Calls for everybody, with their answers: they ask nothing of their caller.
-pub use reducing::{Reduced, Reduction, reduce};
+pub use reducing::{Reduction, reduce};
 
 // Exported for the crate above.
 pub use steps::reduce_rows;

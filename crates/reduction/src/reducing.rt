@@ -1,16 +1,17 @@
 // Reducing a table.
 ghost use Rattle.std.specs.Prelude.{◌≡◌};
 ghost use Rattle.automaton.specs.Table.{judge};
-ghost use Rattle.reduction.specs.Reduce.{reduction_of, reduction, reduction_after};
+ghost use Rattle.records.specs.Answers.{reading_of};
+ghost use Rattle.reduction.specs.Reduce.{reduction, reduction_after};
 ghost use Rattle.reduction.specs.Demand3.{MeetsDemand3};
 
 use crate::steps::reduce_rows;
-use automaton::{Judged, ROWS, Size, Written, decode, write};
+use automaton::{Decoded, ROWS, Size, decode, write};
 use records::Refusal;
 
 // The length of the reduced table, the counts of the table and of the reduced one, and the rounds of step 2, which are those of the
 // simulation on what step 1 leaves.
-#[derive(Clone, Copy)]
+#[derive(Clone, Copy, Debug, PartialEq, Eq)]
 pub struct Reduction {
     pub length: usize,
     pub old: Size,
@@ -18,39 +19,22 @@ pub struct Reduction {
     pub rounds: usize,
 }
 
-#[derive(Clone, Copy)]
-pub enum Reduced {
-    Table(Reduction),
-    Refused(Refusal),
-}
-
 // Writes the reduced table to the start of `out`: it meets demand 3. Refuses a table with 1 to 7, as `judge` does, and an `out` that is too
 // short with 13; a refusal leaves `out` as it is.
-pub fn reduce(table: &[u8], out: &mut [u8]) -> Reduced
-    ensures result_value { reduction_of result ≡ reduction table.now out.old }
+pub fn reduce(table: &[u8], out: &mut [u8]) -> Result<Reduction, Refusal>
+    ensures result_value { reading_of result ≡ reduction table.now out.old }
     ensures out_after { out.new ≡ reduction_after (judge table.now) out.old }
     ensures meets_demand3 { MeetsDemand3 table.now out.old result out.new }
 {
     let mut ranks: [u8; 256] = [0; 256];
     let mut rows: [u8; ROWS] = [0; ROWS];
-    let decoded = decode(table, &mut ranks, &mut rows);
-    let finals = decoded.finals;
-    let judged = decoded.judged;
-    match judged {
-        Judged::Refused(cause) => Reduced::Refused(cause),
-        Judged::Table(size) => {
-            let short = reduce_rows(size, finals, &mut rows);
-            let left = short.size;
-            let left_finals = short.finals;
-            match write(left, left_finals, &ranks, &rows, out) {
-                Written::Refused(cause) => Reduced::Refused(cause),
-                Written::Bytes(length) => Reduced::Table(Reduction {
-                    length,
-                    old: size,
-                    new: left,
-                    rounds: short.rounds,
-                }),
-            }
-        }
-    }
+    let Decoded { size, finals } = decode(table, &mut ranks, &mut rows)?;
+    let short = reduce_rows(size, finals, &mut rows);
+    let length = write(short.size, short.finals, &ranks, &rows, out)?;
+    Ok(Reduction {
+        length,
+        old: size,
+        new: short.size,
+        rounds: short.rounds,
+    })
 }

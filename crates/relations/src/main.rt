@@ -3,101 +3,87 @@
 // (two bytes), and two bytes for each state of each pair.
 #![tactic(auto)]
 
-ghost use Rattle.std.specs.Prelude.{◌≡◌, length};
-
-use automaton::number;
-use cases::{end_line, write_number, write_word};
-use simulation::{Compared, Related};
+use automaton::Refusal;
+use cases::line;
+use simulation::Related;
 use std::io;
 use std::io::{Read, Write};
 
+// The longest output that a relation is tried with.
+const ROOM: usize = 8300;
+
 fn main(rt: HostRuntime) -> io::Result<()> {
-    let mut input = rt.stdin();
-    let mut out = rt.stdout();
-    for _ in 0..1000000 {
-        if !one(&mut input, &mut out)? {
-            break;
-        }
-    }
-    Ok(())
+    cases::run(&mut rt.stdin(), &mut rt.stdout(), one)
 }
 
-// The next case: false where the input has ended.
+// What follows a case's name: false where the input has ended.
 fn one<R: Read, W: Write>(input: &mut R, out: &mut W) -> io::Result<bool> {
-    if !cases::next_case(input, out)? {
-        return Ok(false);
-    }
     let mut table = [0u8; 65536];
-    let field = cases::next_field(input, 4, &mut table)?;
-    if !field.there {
+    let Some(length) = cases::next_field(input, 4, &mut table)? else {
         return Ok(false);
-    }
-    let t = &table[..field.length];
-    let room = cases::number(input, 4)?;
-    relation(out, t, room)?;
-    let pairs = cases::number(input, 2)?;
-    compare_all(input, out, t, pairs)
+    };
+    let t = &table[..length];
+    let Some(room) = cases::number(input, 4)? else {
+        return Ok(false);
+    };
+    relation(out, t, room as usize)?;
+    let Some(pairs) = cases::number(input, 2)? else {
+        return Ok(false);
+    };
+    compare_all(input, out, t, pairs)?;
+    Ok(true)
 }
 
-fn relation<W: Write>(out: &mut W, t: &[u8], room: usize) -> io::Result<()> {
-    if room > 8300 {
-        return Ok(());
-    }
-    let mut space = filled();
-    let pairs_out = &mut space[..room];
-    match simulation::relate(t, pairs_out) {
-        Related::Pairs { rounds, pairs } => {
-            write_word(out, b"relation")?;
-            write_number(out, rounds)?;
-            write_number(out, pairs)?;
-        }
-        Related::Refused(cause) => {
-            write_word(out, b"refused")?;
-            write_number(out, number(cause) as usize)?;
-        }
-    }
-    write_number(out, cases::add_all(0, pairs_out) as usize)?;
-    end_line(out)
-}
-
-fn filled() -> [u8; 8300]
-    ensures { 8300 ≡ length result }
-{
-    [170; 8300]
-}
-
-// Each pair of states: false where the input ends before their number.
 fn compare_all<R: Read, W: Write>(
     input: &mut R,
     out: &mut W,
     t: &[u8],
-    pairs: usize,
-) -> io::Result<bool> {
-    if pairs > 65535 {
-        return Ok(false);
-    }
+    pairs: u32,
+) -> io::Result<()> {
     for _ in 0..pairs {
-        let q = cases::number(input, 2)?;
-        let r = cases::number(input, 2)?;
+        let q = state(input)?;
+        let r = state(input)?;
         compare(out, t, q, r)?;
     }
-    Ok(true)
+    Ok(())
 }
 
-fn compare<W: Write>(out: &mut W, t: &[u8], q: usize, r: usize) -> io::Result<()> {
-    write_word(out, b"pair")?;
-    write_number(out, q)?;
-    write_number(out, r)?;
-    match simulation::compare(t, q, r) {
-        Compared::Yes => write_word(out, b" yes")?,
-        Compared::Rule(i) => {
-            write_word(out, b" rule")?;
-            write_number(out, i)?;
-        }
-        Compared::Refused(cause) => {
-            write_word(out, b" refused")?;
-            write_number(out, number(cause) as usize)?;
-        }
+// The next state; where the input has ended, a number that no state has.
+fn state<R: Read>(input: &mut R) -> io::Result<usize> {
+    Ok(cases::number(input, 2)?.map_or(1 << 32, |q| q as usize))
+}
+
+// The relation, in an output with some room, and a checksum of all of the output; nothing where the room is more than any case has.
+fn relation<W: Write>(out: &mut W, t: &[u8], room: usize) -> io::Result<()> {
+    if room > ROOM {
+        return Ok(());
     }
-    end_line(out)
+    let mut space = cases::filled::<ROOM>();
+    let space = &mut space[..room];
+    let related = simulation::relate(t, space);
+    write_related(out, related, cases::add_all(0, space))
+}
+
+fn write_related<W: Write>(
+    out: &mut W,
+    related: Result<Related, Refusal>,
+    sum: u64,
+) -> io::Result<()> {
+    match related {
+        Ok(Related { rounds, pairs }) => {
+            line(out, b"relation", &[rounds as u64, pairs as u64, sum])
+        }
+        Err(cause) => line(out, b"refused", &[u64::from(u32::from(cause)), sum]),
+    }
+}
+
+// A pair of states, and whether the second simulates the first.
+fn compare<W: Write>(out: &mut W, t: &[u8], q: usize, r: usize) -> io::Result<()> {
+    out.write_all(b"pair")?;
+    cases::write_spaced(out, &[q, r])?;
+    match simulation::compare(t, q, r) {
+        Ok(None) => out.write_all(b" yes\n"),
+        Ok(Some(i)) => line(out, b" rule", &[i]),
+        Err(cause) => line(out, b" refused", &[u32::from(cause)]),
+    }
 }

@@ -26,7 +26,8 @@ use Rattle.trees.specs.Subtree.{subtrees, has_state, first_bad, accepted, reject
 use Rattle.simulation.specs.Check.{acceptance, finding}
 use Rattle.simulation.specs.Query.{simulation_of, rounds_of, bits_from, row_bytes, relation_rows, relation_bytes, relation_query, pair_query, yes}
 use Rattle.simulation.specs.Query.{rule, comparison_of, Compares}
-use Rattle.simulation.specs.declared.query.Compared.{Compared}
+use Rattle.std.specs.Prelude.{Result, Option}
+use Rattle.records.specs.declared.refusal.Refusal.{Refusal}
 use Rattle.simulation.proofs.Comparing.{unmatched_first, unmatched_numbers, NamesOne, compares_iff_yes, compares_iff_unmatched}
 use Rattle.stages.specs.Steps.{found_in, closure, buildable, productive, names_only, trimmed, below, rounds_in, equivalent, first_of}
 use Rattle.stages.specs.Steps.{representative, same_states, same_rule, firsts, quotient, dominated_by, dominated, pruned, needed, kept}
@@ -117,10 +118,10 @@ pub record Bench : Type 0 where
   -- T as handed in: two rounds, nine pairs. The rows of its five states take 160 bytes.
   pub B2 : (out : List ℕ) → 160 ≤ length out → relation_query table_t out ≡ found (record { rounds = 2; pairs = 9 })
   -- The pairs (2, 0), (0, 2) and (3, 4), and the answers that the promise allows for each.
-  pub B3 : (pair_query table_t 2 0 ≡ found false) × ((a : Compared) → Compares table_t 2 0 a ↔ (comparison_of a ≡ found (rule 3)))
-  pub B4 : (pair_query table_t 0 2 ≡ found true) × ((a : Compared) → Compares table_t 0 2 a ↔ (comparison_of a ≡ found yes))
+  pub B3 : (pair_query table_t 2 0 ≡ found false) × ((a : Result (Option ℕ) Refusal) → Compares table_t 2 0 a ↔ (comparison_of a ≡ found (rule 3)))
+  pub B4 : (pair_query table_t 0 2 ≡ found true) × ((a : Result (Option ℕ) Refusal) → Compares table_t 0 2 a ↔ (comparison_of a ≡ found yes))
   pub B5 : (pair_query table_t 3 4 ≡ found false)
-      × ((a : Compared) → Compares table_t 3 4 a
+      × ((a : Result (Option ℕ) Refusal) → Compares table_t 3 4 a
       ↔ ((comparison_of a ≡ found (rule 4)) ⊎ (comparison_of a ≡ found (rule 5)) ⊎ (comparison_of a ≡ found (rule 6))))
   -- f(b,a), a and f(f(a,a),a).
   pub B6 : acceptance table_t (8 ∷ 0 ∷ 0 ∷ 0 ∷ 16 ∷ 0 ∷ 1 ∷ 0 ∷ 0 ∷ 0 ∷ 2 ∷ 0 ∷ []) ≡ found true

@@ -5,8 +5,8 @@ ghost use Rattle.automaton.specs.Table.{judge};
 ghost use Rattle.reporting.specs.Report as spec;
 ghost use Rattle.reporting.specs.Inner.{Short, Put, FewDigits, reduced_lines};
 
-use automaton::{Judged, ROWS, Size, decode};
-use records::{number, put_bytes};
+use automaton::{Decoded, ROWS, Size, decode};
+use records::put_bytes;
 use reduction::reduce_rows;
 
 // How many digits v has.
@@ -49,7 +49,7 @@ fn put_word(out: &mut [u8], at: usize, word: &[u8]) -> usize
     requires { at + length word.now ≤ length out.old }
     ensures { Put out.old at word.now result out.new }
 {
-    put_bytes(out, at, word, word.len());
+    put_bytes(out, at, word);
     at + word.len()
 }
 
@@ -92,10 +92,7 @@ pub fn report(input: &[u8], out: &mut [u8; 64]) -> usize
 fn first(input: &[u8]) -> &[u8]
     ensures { result.now ≡ take 27417 input.now }
 {
-    if input.len() < 27417 {
-        return input;
-    }
-    &input[..27417]
+    &input[..input.len().min(27417)]
 }
 
 // The report on a table.
@@ -105,15 +102,11 @@ fn report_on(table: &[u8], out: &mut [u8]) -> usize
 {
     let mut ranks: [u8; 256] = [0; 256];
     let mut rows: [u8; ROWS] = [0; ROWS];
-    let decoded = decode(table, &mut ranks, &mut rows);
-    let finals = decoded.finals;
-    let judged = decoded.judged;
-    match judged {
-        Judged::Refused(cause) => put_line(out, 0, b"refused", &[number(cause) as usize]),
-        Judged::Table(size) => {
+    match decode(table, &mut ranks, &mut rows) {
+        Err(cause) => put_line(out, 0, b"refused", &[u32::from(cause) as usize]),
+        Ok(Decoded { size, finals }) => {
             let short = reduce_rows(size, finals, &mut rows);
-            let left = short.size;
-            put_reduced(out, size, left, short.rounds)
+            put_reduced(out, size, short.size, short.rounds)
         }
     }
 }

@@ -7,12 +7,13 @@ use mathlib.Core.Logic.{◌⊎◌, inl, inr, ◌↔◌}
 use mathlib.Core.List.{List}
 use mathlib.Core.Bool.{true, true≢false}
 use lib.ListN.{length}
+use Rattle.std.specs.Prelude.{Result, Ok, Err}
+use Rattle.records.specs.Answers.{reading_of}
 use Rattle.records.specs.Refusal.{number_of}
 use Rattle.records.specs.Read.{Read, found, refused, ◌>>=◌, map_read}
 use Rattle.records.specs.declared.refusal.Refusal.{Refusal}
 use Rattle.records.proofs.Fields.{Bytes}
 use Rattle.records.proofs.Reading.{refused≢found, found_same}
-use Rattle.automaton.specs.declared.table.Judged.TheVariants as judged
 use Rattle.automaton.specs.Automaton.{Automaton, WellFormed}
 use Rattle.automaton.specs.Table.{judge}
 use Rattle.automaton.specs.Decoded.{size_of, automaton_in, Decodes}
@@ -22,12 +23,12 @@ use Rattle.automaton.proofs.Encoding.{encode_judge, table_least}
 use Rattle.automaton.proofs.Held.{Held, refused_judged}
 use Rattle.automaton.proofs.Theorems.{judged_well_formed}
 use Rattle.indexing.specs.Inner.{IndexRoom}
-use Rattle.trees.specs.declared.evaluation.Answer.TheVariants as answers
 use Rattle.trees.specs.Tree.{Tree, accepts}
 use Rattle.trees.specs.Postfix.{judge_tree}
 use Rattle.trees.specs.Subtree.{rejected, is_accepted, finding_in, Named}
-use Rattle.trees.specs.Answers.{acceptance_of, finding_of}
+use Rattle.trees.specs.Answers.{is_acceptance, named_by, acceptance_of, finding_of}
 use Rattle.trees.specs.declared.evaluation.Answer.{Answer}
+use Rattle.trees.specs.declared.evaluation.Subtree.{Subtree}
 use Rattle.trees.specs.declared.evaluation.Answer.TheVariants.{Accepted, Rejected}
 use Rattle.trees.specs.Inner.{tree_finding}
 use Rattle.trees.specs.Holds.{walk_finding}
@@ -36,8 +37,8 @@ use Rattle.trees.proofs.Theorems.{tree_walk}
 use Rattle.simulation.specs.Check.{acceptance, finding}
 
 -- The table and the tree.
-pub table_refused : (table tree : List ℕ) {r : Decoded} {ranks rows : List ℕ} (cause : Refusal)
-    → Decodes (judge table) r ranks rows → r.judged ≡ judged.Refused cause → refused (number_of cause) ≡ finding table tree
+pub table_refused : (table tree : List ℕ) {r : Result Decoded Refusal} {ranks rows : List ℕ} (cause : Refusal)
+    → Decodes (judge table) r ranks rows → r ≡ Err cause → refused (number_of cause) ≡ finding table tree
 unfolding finding ◌>>=◌
 table_refused table tree cause d e = sym (rw (refused_judged table _ _ _ cause d e))
 
@@ -80,13 +81,13 @@ finding_acceptance table tree = with_table (judge table)
     with_table (found A) = with_tree A (judge_tree A.ranks tree)
     with_table (refused cause) = refl
 
-pub answer_acceptance : (answer : Answer) (table tree : List ℕ) → finding_of answer ≡ finding table tree → acceptance_of answer ≡ acceptance table tree
+pub answer_acceptance : (answer : Result Answer Refusal) (table tree : List ℕ) → finding_of answer ≡ finding table tree → acceptance_of answer ≡ acceptance table tree
 answer_acceptance answer table tree e = go answer ∙ ap (map_read is_accepted) e ∙ finding_acceptance table tree
   where
-    go : (answer : Answer) → acceptance_of answer ≡ map_read is_accepted (finding_of answer)
-    go Accepted = unfold acceptance_of finding_of is_accepted map_read in refl
-    go (Rejected i size) = unfold acceptance_of finding_of is_accepted map_read in refl
-    go (answers.Refused cause) = unfold acceptance_of finding_of map_read in refl
+    go : (answer : Result Answer Refusal) → acceptance_of answer ≡ map_read is_accepted (finding_of answer)
+    go (Ok Accepted) = unfold acceptance_of finding_of reading_of is_acceptance named_by is_accepted map_read in refl
+    go (Ok (Rejected s)) = unfold acceptance_of finding_of reading_of is_acceptance named_by is_accepted map_read in refl
+    go (Err cause) = unfold acceptance_of finding_of reading_of map_read in refl
 
 -- Of a tree that is read: accepted, or rejected with a subtree, as the automaton accepts it or not.
 module _ (table tree : List ℕ) (A : Automaton) (t : Tree) (e : judge table ≡ found A) (f : judge_tree A.ranks tree ≡ found t) where
@@ -104,13 +105,14 @@ module _ (table tree : List ℕ) (A : Automaton) (t : Tree) (e : judge table ≡
       let is = found_same (sym finding_found ∙ h) in
       named_subtree A t (sym (finding_accepts A t) ∙ ap is_accepted is) is
 
-  pub answer_found : (answer : Answer) → finding_of answer ≡ finding table tree
-      → ((answer ≡ Accepted) ⊎ ((i : ℕ) × (size : ℕ) × (answer ≡ Rejected i size) × Named A t i size)) × ((answer ≡ Accepted) ↔ (accepts A t ≡ true))
-  unfolding finding_of is_accepted
-  answer_found Accepted h =
+  pub answer_found : (answer : Result Answer Refusal) → finding_of answer ≡ finding table tree
+      → ((answer ≡ Ok Accepted) ⊎ ((s : Subtree) × (answer ≡ Ok (Rejected s)) × Named A t s.node s.size))
+      × ((answer ≡ Ok Accepted) ↔ (accepts A t ≡ true))
+  unfolding finding_of reading_of named_by is_accepted map_read
+  answer_found (Ok Accepted) h =
       let yes : accepts A t ≡ true = sym (finding_accepts A t) ∙ ap is_accepted (sym (found_same (h ∙ finding_found))) in
       (inl refl, (λ _. yes, λ _. refl))
-  answer_found (Rejected i size) h =
+  answer_found (Ok (Rejected s)) h =
       let named = rejected_named (sym h) in
-      (inr (i, size, refl, named), (λ (p : Rejected i size ≡ Accepted). cc, λ yes. absurd (true≢false (sym yes ∙ named.not_accepted))))
-  answer_found (answers.Refused cause) h = absurd (refused≢found (h ∙ finding_found))
+      (inr (s, refl, named), (λ (p : Ok (Rejected s) ≡ Ok Accepted). cc, λ yes. absurd (true≢false (sym yes ∙ named.not_accepted))))
+  answer_found (Err cause) h = absurd (refused≢found (h ∙ finding_found))

@@ -14,13 +14,14 @@ use Rattle.lists.specs.Lists.{from, keep}
 use Rattle.lists.proofs.Keeping.{keep_in, keep_out}
 use Rattle.lists.proofs.Ranges.{from_member}
 use Rattle.lists.proofs.Booleans.{and_true_out}
+use Rattle.std.specs.Prelude.{Result, Option}
+use Rattle.records.specs.declared.refusal.Refusal.{Refusal}
 use Rattle.records.specs.Read.{Read, found, refused, map_read}
 use Rattle.records.proofs.Reading.{refused≢found}
 use Rattle.automaton.specs.Automaton.{Rule, Automaton}
 use Rattle.automaton.specs.Table.{judge}
 use Rattle.refinement.specs.Simulation.{matched}
 use Rattle.simulation.specs.Query.{simulation_of, pair_query, Unmatched, Comparison, yes, rule, comparison_of, is_yes, Compares}
-use Rattle.simulation.specs.declared.query.Compared.{Compared}
 
 -- The first of some rules is a rule of q that no rule of r matches; and the numbers of all such rules.
 unfoldable pub unmatched_first : Automaton → ℕ → ℕ → List Rule → Bool
@@ -81,7 +82,7 @@ is_rule (found yes) h = let z : ◌≡◌ {A = ℕ} 0 1 = cc in absurd (omega ar
 is_rule (found (rule i)) h = (i, refl)
 is_rule (refused cause) h = absurd (refused≢found h)
 
-module _ (table : List ℕ) (q r : ℕ) (a : Compared) where
+module _ (table : List ℕ) (q r : ℕ) (a : Result (Option ℕ) Refusal) where
   pub compares_iff_yes : pair_query table q r ≡ found true → Compares table q r a ↔ (comparison_of a ≡ found yes)
   unfolding map_read is_yes
   compares_iff_yes e = (

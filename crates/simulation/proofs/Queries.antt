@@ -1,11 +1,10 @@
 -- The answers of the two queries, from the words that hold the relation of a table and from the rule that has no match: for `relate`, `compare`
 -- and the theorems on them.
 use Prim.Native.Nat.{ℕ, ◌+◌, ◌*◌, ◌/◌, ◌%◌, ◌^◌, ◌≤◌, ◌<◌}
-use mathlib.Core.Path.{◌≡◌, refl, sym, ap, ◌∙◌}
+use mathlib.Core.Path.{◌≡◌, refl, sym, ap, subst, ◌∙◌}
 use mathlib.Core.Logic.{◌⊎◌, inl, inr, ◌↔◌}
 use mathlib.Core.List.{List}
 use mathlib.Core.Bool.{Bool, true, false, not, ◌&&◌, false≢true}
-use native.Mathlib.Decide.{dec_lt}
 use native.Mathlib.Omega.{arith}
 use lib.ListN.{length, get_or, drop}
 use lib.Dec.{eqb, ltb}
@@ -16,6 +15,8 @@ use Rattle.lists.proofs.Ranges.{length_from, from_distinct}
 use Rattle.lists.proofs.Booleans.{and_true_in, and_false_left, and_false_right, or_false_out}
 use Rattle.lists.proofs.Search.{all_in}
 use Rattle.sets.proofs.StateSets.{bit}
+use Rattle.std.specs.Prelude.{Option, Ok, Err, Some, None}
+use Rattle.records.specs.Answers.{reading_of}
 use Rattle.records.specs.Refusal.{number_of}
 use Rattle.records.specs.Read.{found, refused, ◌>>=◌, ◌>>◌, check, map_read}
 use Rattle.records.specs.declared.refusal.Refusal.{Refusal}
@@ -25,14 +26,11 @@ use Rattle.automaton.specs.Automaton.{Rule, Automaton, WellFormed}
 use Rattle.automaton.specs.Row.{rule_at, rules_in}
 use Rattle.automaton.specs.Table.{judge}
 use Rattle.automaton.proofs.Rows.{rules_at, rules_each, rule_in_lem}
-use Rattle.refinement.specs.Simulation.{Relation, related, matched, survives}
+use Rattle.refinement.specs.Simulation.{Relation, related, matched, relation, survives}
 use Rattle.refinement.specs.Inner.{relation_in, Simulable, answered}
 use Rattle.refinement.proofs.Pairs.{pairs_in, survives_related, relation_length, relation_distinct}
-use Rattle.simulation.specs.declared.query.Compared.TheVariants as compared
-use Rattle.simulation.specs.declared.query.Related.TheVariants as answer
-use Rattle.simulation.specs.Query.{simulation_of, rounds_of, relation_bytes, related_of, relation_query, relation_after}
-use Rattle.simulation.specs.Query.{comparison_of, is_yes, pair_query, Unmatched, Compares}
-use Rattle.simulation.specs.declared.query.Compared.{Compared}
+use Rattle.simulation.specs.Query.{simulation_of, rounds_of, relation_bytes, relation_query, relation_after}
+use Rattle.simulation.specs.Query.{compared_by, comparison_of, is_yes, rule, pair_query, Unmatched, Compares}
 use Rattle.simulation.specs.Inner.{bytes_of, ones_of, FirstUnmatched, ComparedBy}
 use Rattle.simulation.proofs.RelationBytes.{bytes_rows, length_rows, rows_bit, ones_pairs}
 use Rattle.simulation.proofs.Preorder.{below_member, member_below, preorder_states}
@@ -44,8 +42,8 @@ target_below rows k n s i h = member_below n _ (s.targets _ (rule_in_lem rows k 
 -- The relation query.
 
 pub query_refused : (b out : List ℕ) (cause : Refusal) → judge b ≡ refused (number_of cause)
-    → (related_of (answer.Refused cause) ≡ relation_query b out) × (out ≡ relation_after (judge b) out)
-unfolding related_of relation_query relation_after ◌>>=◌
+    → (reading_of (Err cause) ≡ relation_query b out) × (out ≡ relation_after (judge b) out)
+unfolding reading_of relation_query relation_after ◌>>=◌
 query_refused b out cause e = rw e (refl, refl)
 
 pub relation_once : (A : Automaton) → Distinct (simulation_of A)
@@ -85,8 +83,8 @@ module _ (A : Automaton) (w : WellFormed A) where
 
 module _ (b out : List ℕ) (A : Automaton) (w : WellFormed A) (e : judge b ≡ found A) where
   pub query_short : length out < 32 * A.states
-      → (related_of (answer.Refused ShortOutput) ≡ relation_query b out) × (out ≡ relation_after (judge b) out)
-  unfolding related_of relation_query relation_after ◌>>=◌ ◌>>◌
+      → (reading_of (Err ShortOutput) ≡ relation_query b out) × (out ≡ relation_after (judge b) out)
+  unfolding reading_of relation_query relation_after ◌>>=◌ ◌>>◌
   query_short h =
       let short = room_short (relation_bytes A) out (rw (length_bytes A w) h) in
       rw (e, short.0, short.1) (refl, refl)
@@ -99,8 +97,8 @@ module _ (b out : List ℕ) (A : Automaton) (w : WellFormed A) (e : judge b ≡ 
   pub query_written : (words after : List ℕ) (count pairs : ℕ) → 32 * A.states ≤ length out
       → relation_in words ≡ simulation_of A → count ≡ rounds_of A
       → after ≡ over out 0 (bytes_of words (32 * A.states)) → pairs ≡ ones_of words (4 * A.states)
-      → (related_of (answer.Pairs count pairs) ≡ relation_query b out) × (after ≡ relation_after (judge b) out)
-  unfolding related_of relation_after
+      → (reading_of (Ok (record { rounds = count; pairs = pairs })) ≡ relation_query b out) × (after ≡ relation_after (judge b) out)
+  unfolding reading_of relation_after
   query_written words after count pairs h f g o p =
       let enough = room_enough (relation_bytes A) out (rw (length_bytes A w) h) in (
         rw (query_found h, g, p, pairs_are A w words f),
@@ -110,20 +108,41 @@ module _ (b out : List ℕ) (A : Automaton) (w : WellFormed A) (e : judge b ≡ 
 -- The pair query.
 
 pub compares_refused : (b : List ℕ) (q r : ℕ) (cause : Refusal) → judge b ≡ refused (number_of cause)
-    → Compares b q r (compared.Refused cause)
-unfolding comparison_of is_yes map_read pair_query ◌>>=◌
+    → Compares b q r (Err cause)
+unfolding comparison_of compared_by reading_of is_yes map_read pair_query ◌>>=◌
 compares_refused b q r cause e = record {
   verdict = rw e;
   unmatched = λ A f i g. absurd (let z : ◌≡◌ {A = ℕ} 0 1 = cc in omega arith);
 }
+
+-- The relation of rules on the states below n, and two of these states.
+module _ (rows : List ℕ) (k n q r : ℕ) (hq : q < n) (hr : r < n) where
+  abbrev largest : Relation
+  largest = relation (rules_in rows k) (from 0 n)
+
+  -- Were every rule of q matched, the pair would be in the relation.
+  all_answered : ((j : ℕ) → j < k → answered (rules_in rows k) largest q r (rule_at rows j) ≡ true) → related largest q r ≡ true
+  unfolding survives
+  all_answered each =
+      let survive : survives (rules_in rows k) largest (q, r) ≡ true = all_in _ (rules_in rows k) (rules_each _ rows k each) in
+      survives_related (rules_in rows k) (from 0 n) q r (below_member n q hq) (below_member n r hr) survive
+
+  -- So outside the relation there is a rule without a match.
+  pub first_answers : (a : Option ℕ) → related largest q r ≡ false → FirstUnmatched rows k largest q r a → ComparedBy rows k largest q r a
+  unfolding is_yes compared_by
+  first_answers None out first = absurd (false≢true (sym out ∙ (unfold FirstUnmatched in all_answered first)))
+  first_answers (Some i) out first = record {
+    verdict = sym out;
+    first = λ j e. subst (FirstUnmatched rows k largest q r) e first;
+  }
 
 module _ (b : List ℕ) (q r : ℕ) (A : Automaton) (e : judge b ≡ found A) where
   outside : (A.states ≤ q) ⊎ (A.states ≤ r) → (ltb q A.states && ltb r A.states) ≡ false
   outside (inl h) = and_false_left (ltb r A.states) (le-ltb q A.states h)
   outside (inr h) = and_false_right (ltb q A.states) (le-ltb r A.states h)
 
-  pub compares_outside : (A.states ≤ q) ⊎ (A.states ≤ r) → Compares b q r (compared.Refused UnknownState)
-  unfolding comparison_of is_yes map_read pair_query ◌>>=◌ ◌>>◌ check
+  pub compares_outside : (A.states ≤ q) ⊎ (A.states ≤ r) → Compares b q r (Err UnknownState)
+  unfolding comparison_of compared_by reading_of is_yes map_read pair_query ◌>>=◌ ◌>>◌ check
   compares_outside h = record {
     verdict = rw (e, outside h);
     unmatched = λ B f i g. absurd (let z : ◌≡◌ {A = ℕ} 0 1 = cc in omega arith);
@@ -138,38 +157,27 @@ module _ (b : List ℕ) (q r : ℕ) (A : Automaton) (e : judge b ≡ found A) wh
     pair_found = rw (e, inside)
 
     module _ (rows : List ℕ) (k : ℕ) (is : rules_in rows k ≡ A.rules) where
-      -- Were every rule of q matched, the pair would be in the relation.
-      all_answered : ((j : ℕ) → j < k → answered (rules_in rows k) (simulation_of A) q r (rule_at rows j) ≡ true)
-          → related (simulation_of A) q r ≡ true
-      unfolding survives simulation_of
-      all_answered each =
-          let survive : survives (rules_in rows k) (simulation_of A) (q, r) ≡ true =
-          all_in _ (rules_in rows k) (rules_each _ rows k each) in
-          survives_related A.rules (from 0 A.states) q r (below_member _ q hq) (below_member _ r hr)
-          (ap (λ (rules : List Rule). survives rules (simulation_of A) (q, r)) (sym is) ∙ survive)
+      unmatched_rule : (i : ℕ) → FirstUnmatched rows k (simulation_of A) q r (Some i) → Unmatched A q r i
+      unfolding FirstUnmatched
+      unmatched_rule i first =
+          let s = or_false_out (not (eqb (rule_at rows i).target q)) _ first.1.0 in
+          record {
+            rule = rule_at rows i;
+            behind = drop (i + 1) (rules_in rows k);
+            number = rw (← is) (rules_at rows k i first.0);
+            target = eqb-true (rule_at rows i).target q (not-false _ s.0);
+            unmatched = ap (λ (rules : List Rule). matched rules (simulation_of A) r (rule_at rows i)) (sym is) ∙ s.1;
+          }
 
-      unmatched_rule : (i : ℕ) → related (simulation_of A) q r ≡ false → FirstUnmatched rows k (simulation_of A) q r i → Unmatched A q r i
-      unmatched_rule i out first = elim (dec_lt i k) [
-        | yes l ↦
-            let s = or_false_out (not (eqb (rule_at rows i).target q)) _ (first.fails l) in
-            record {
-              rule = rule_at rows i;
-              behind = drop (i + 1) (rules_in rows k);
-              number = rw (← is) (rules_at rows k i l);
-              target = eqb-true (rule_at rows i).target q (not-false _ s.0);
-              unmatched = ap (λ (rules : List Rule). matched rules (simulation_of A) r (rule_at rows i)) (sym is) ∙ s.1;
-            }
-        | no l ↦
-            let last : i ≡ k = omega (arith, first.most) in
-            absurd (false≢true (sym out ∙ all_answered (rw last at first.before)))
-      ]
-
-      pub compares_by : (a : Compared) → ComparedBy rows k (simulation_of A) q r a → Compares b q r a
-      unfolding is_yes map_read
+      pub compares_by : (a : Option ℕ) → ComparedBy rows k (simulation_of A) q r a → Compares b q r (Ok a)
+      unfolding comparison_of compared_by reading_of is_yes map_read
       compares_by a c = record {
-        verdict = c.verdict ∙ sym pair_found;
+        verdict = ap found c.verdict ∙ sym pair_found;
         unmatched = λ B g i f.
             let same : A ≡ B = cc in
-            let out : false ≡ related (simulation_of A) q r = cc (rw f at c.verdict) in
-            rw (← same) (unmatched_rule i (sym out) (c.first i f));
+            rw (← same) (unmatched_rule i (c.first i (some_of a f)));
       }
+        where
+          some_of : (a : Option ℕ) {i : ℕ} → found (compared_by a) ≡ found (rule i) → a ≡ Some i
+          some_of None f = absurd (let z : ◌≡◌ {A = ℕ} 0 1 = cc in omega arith)
+          some_of (Some j) f = cc

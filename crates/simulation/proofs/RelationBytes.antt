@@ -7,8 +7,8 @@ use mathlib.Core.Bool.{Bool, true, false, cond}
 use native.Mathlib.Nat.{add-zero, add-suc, suc-add, zero-add, add_assoc}
 use native.Mathlib.Numerals.{add-one, add-two, add-three}
 use native.Mathlib.Omega.{arith}
-use lib.ListN.{length, get_or, set, length-append, length-map, get_or-append}
-use lib.Seq.{get_or-append-add, sets-eq}
+use lib.ListN.{length, get_or, length-append, length-map, get_or-append}
+use lib.Seq.{get_or-append-add}
 use lib.Dec.{eqb}
 use lib.Pow.{mod-pow-add, shr-shr, shr_lt}
 use lib.Count.{ones, ones_step}
@@ -219,30 +219,11 @@ module _ (R : Relation) where
       rw (rows_at n 0 q (r / 8) h (omega arith), zero-add)
       (bits_bit 8 q (8 * (r / 8)) (r % 8) (omega arith) ∙ ap (related R q) (omega arith))
 
--- A turn of the loop that writes a word's bytes, and of the one that writes the words.
+-- The bytes of the words, and a turn of the loop that writes them.
 
-over_one : (out : List ℕ) (at v : ℕ) → at + 1 ≤ length out → set out at v ≡ over out at (v ∷ [])
-unfolding over
-over_one out at v h = sets-eq (v ∷ []) out at h
-
-length_bytes : (ws : List ℕ) (i : ℕ) → length (bytes_of ws i) ≡ i
+pub length_bytes : (ws : List ℕ) (i : ℕ) → length (bytes_of ws i) ≡ i
 unfolding bytes_of
 length_bytes ws i = length-map (from 0 i) (byte_of ws) ∙ length_from 0 i
-
-pub byte_next : (out : List ℕ) (at w : ℕ) (now : List ℕ) (j : ℕ) → now ≡ over out at (bytes_of (w ∷ []) j) → length now ≡ length out
-    → j < 8 → at + 8 ≤ length out → set now (at + j) (w / 2 ^ (8 * j) % 256) ≡ over out at (bytes_of (w ∷ []) (j + 1))
-unfolding byte_of
-byte_next out at w now j e long h room =
-    let first : j / 8 ≡ 0 = omega arith in
-    let same : j % 8 ≡ j = omega arith in
-    let byte : w / 2 ^ (8 * j) % 256 ≡ byte_of (w ∷ []) j = rw (first, same) in
-    rw byte
-    (over_then out at (bytes_of (w ∷ []) j) now (at + j) (byte_of (w ∷ []) j ∷ []) _ e (over_one now (at + j) (byte_of (w ∷ []) j) (omega arith))
-    (omega (arith, length_bytes (w ∷ []) j)) (omega arith)
-    ∙ ap (over out at) one_more)
-  where
-    one_more : bytes_of (w ∷ []) j ++ (byte_of (w ∷ []) j ∷ []) ≡ bytes_of (w ∷ []) (j + 1)
-    one_more = unfold bytes_of in rw (from_step, map-append, zero-add)
 
 word_bytes : (ws : List ℕ) (i : ℕ) → bytes_of ws (8 * i) ++ bytes_of (get_or ws i 0 ∷ []) 8 ≡ bytes_of ws (8 * (i + 1))
 unfolding bytes_of byte_of

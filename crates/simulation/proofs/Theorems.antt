@@ -7,6 +7,7 @@ use mathlib.Core.Bool.{true, true≢false}
 use lib.ListN.{length, take, drop, get_or}
 use Rattle.lists.specs.Lists.{Distinct, from}
 use Rattle.lists.proofs.Ranges.{length_from}
+use Rattle.std.specs.Prelude.{Ok}
 use Rattle.records.specs.Read.{found, refused, ◌>>=◌, map_read}
 use Rattle.records.proofs.Causes.{cause_of}
 use Rattle.automaton.specs.Automaton.{Automaton, WellFormed}
@@ -18,6 +19,7 @@ use Rattle.trees.specs.Postfix.{judge_tree, postfix, peak, encode_tree}
 use Rattle.trees.specs.Subtree.{subtrees, has_state, rejected, is_accepted, Named}
 use Rattle.trees.specs.Holds.{walk_finding}
 use Rattle.trees.specs.Answers.{finding_of}
+use Rattle.trees.specs.declared.evaluation.Subtree.{Subtree}
 use Rattle.trees.specs.declared.evaluation.Answer.TheVariants.{Accepted, Rejected}
 use Rattle.trees.proofs.Runs as runs
 use Rattle.trees.proofs.Postfix as trees
@@ -114,8 +116,8 @@ module _ (table : List ℕ) (A : Automaton) (t : Tree) (judged : judge table ≡
   acceptance_answers = accepting.acceptance_found table (encode_tree t) A t judged read_back
 
   pub check_answers : (counts : Counts) (r : Checked) → Checks counts table (encode_tree t) r
-      → ((r.answer ≡ Accepted) ⊎ ((i : ℕ) × (size : ℕ) × (r.answer ≡ Rejected i size) × Named A t i size))
-      × ((r.answer ≡ Accepted) ↔ Accepts A t)
+      → ((r.answer ≡ Ok Accepted) ⊎ ((s : Subtree) × (r.answer ≡ Ok (Rejected s)) × Named A t s.node s.size))
+      × ((r.answer ≡ Ok Accepted) ↔ Accepts A t)
   check_answers counts r c =
       let s = accepting.answer_found table (encode_tree t) A t judged read_back r.answer c.subtree in
       (s.0, (λ h. runs.accepts_run A t (s.1.0 h), λ h. s.1.1 (runs.run_accepts A t h)))

@@ -1,13 +1,12 @@
 -- What the contracts of inner functions cite; no call for everybody cites any of it. Places that an
 -- array does not have, where `get_or` would give its default, are ruled out by the bounds in the contracts that cite these.
-use Rattle.std.specs.Prelude.{ℕ, zero, suc, ◌+◌, ◌*◌, ◌/◌, ◌%◌, ◌^◌, ◌≤◌, ◌<◌, ◌≡◌, List, map, true, false, length, get_or, eqb}
+use Rattle.std.specs.Prelude.{ℕ, zero, suc, ◌+◌, ◌*◌, ◌/◌, ◌%◌, ◌^◌, ◌<◌, ◌≡◌, List, map, true, false, length, get_or, eqb}
 use Rattle.lists.specs.Lists.{from, keep}
-use Rattle.records.specs.Read.{found, map_read}
 use Rattle.automaton.specs.Row.{rule_at, rules_in}
 use Rattle.refinement.specs.Simulation.{Relation, related}
 use Rattle.refinement.specs.Inner.{answered}
-use Rattle.simulation.specs.Query.{rule, comparison_of, is_yes}
-use Rattle.simulation.specs.declared.query.Compared.{Compared}
+use Rattle.std.specs.Prelude.{Option, Some, None}
+use Rattle.simulation.specs.Query.{is_yes, compared_by}
 
 -- The first n bytes of 64-bit words, each word's lowest byte first.
 unfoldable pub byte_of : List ℕ → ℕ → ℕ
@@ -24,13 +23,13 @@ unfoldable pub ones_of : List ℕ → ℕ → ℕ
 ones_of words zero = 0
 ones_of words (suc n) = ones_of words n + ones_in (get_or words n 0)
 
--- Of k rules in rows, number i is the first rule of q that no rule of r matches; or i is k, and each has a match.
-pub record FirstUnmatched (rows : List ℕ) (k : ℕ) (R : Relation) (q r i : ℕ) : Type 0 where
-  pub most : i ≤ k
-  pub before : (j : ℕ) → j < i → answered (rules_in rows k) R q r (rule_at rows j) ≡ true
-  pub fails : i < k → answered (rules_in rows k) R q r (rule_at rows i) ≡ false
+-- Of k rules in rows, number i is the first rule of q that no rule of r matches; or there is none, and each has a match.
+unfoldable pub FirstUnmatched : List ℕ → ℕ → Relation → ℕ → ℕ → Option ℕ → Type 0
+FirstUnmatched rows k R q r None = (j : ℕ) → j < k → answered (rules_in rows k) R q r (rule_at rows j) ≡ true
+FirstUnmatched rows k R q r (Some i) = (i < k) × ((answered (rules_in rows k) R q r (rule_at rows i) ≡ false)
+    × ((j : ℕ) → j < i → answered (rules_in rows k) R q r (rule_at rows j) ≡ true))
 
 -- An answer on q and r: yes if q is related to r, and otherwise that number.
-pub record ComparedBy (rows : List ℕ) (k : ℕ) (R : Relation) (q r : ℕ) (answer : Compared) : Type 0 where
-  pub verdict : map_read is_yes (comparison_of answer) ≡ found (related R q r)
-  pub first : (i : ℕ) → comparison_of answer ≡ found (rule i) → FirstUnmatched rows k R q r i
+pub record ComparedBy (rows : List ℕ) (k : ℕ) (R : Relation) (q r : ℕ) (answer : Option ℕ) : Type 0 where
+  pub verdict : is_yes (compared_by answer) ≡ related R q r
+  pub first : (i : ℕ) → answer ≡ Some i → FirstUnmatched rows k R q r (Some i)

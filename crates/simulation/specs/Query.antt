@@ -1,15 +1,14 @@
 -- The relation query and the pair query.
 use Rattle.std.specs.Prelude.{ℕ, zero, suc, ◌+◌, ◌*◌, ◌≡◌, Bool, true, false, cond, ◌&&◌, List, [], ◌∷◌, ◌++◌, map, length, drop, ltb}
 use Rattle.lists.specs.Lists.{from}
-use Rattle.records.specs.Refusal.{number_of}
+use Rattle.std.specs.Prelude.{Result, Option, Some, None}
+use Rattle.records.specs.Answers.{reading_of}
+use Rattle.records.specs.declared.refusal.Refusal.{Refusal}
 use Rattle.records.specs.Read.{Read, found, refused, ◌>>=◌, ◌>>◌, map_read, check}
 use Rattle.records.specs.Output.{written, written_over}
 use Rattle.automaton.specs.Automaton.{Rule, Automaton}
 use Rattle.automaton.specs.Table.{judge}
 use Rattle.refinement.specs.Simulation.{Relation, related, matched, relation, rounds}
-use Rattle.simulation.specs.declared.query.Compared.TheVariants as compared
-use Rattle.simulation.specs.declared.query.Related.TheVariants as answers
-use Rattle.simulation.specs.declared.query.Compared.{Compared}
 use Rattle.simulation.specs.declared.query.Related.{Related}
 
 -- The simulation preorder of an automaton: q ≤ r on all its states; and its rounds.
@@ -35,16 +34,8 @@ relation_rows R (q ∷ qs) = row_bytes R q ++ relation_rows R qs
 unfoldable pub relation_bytes : Automaton → List ℕ
 relation_bytes A = relation_rows (simulation_of A) (from 0 A.states)
 
-pub record RoundsAndPairs : Type 0 where
-  pub rounds : ℕ
-  pub pairs : ℕ
-
-unfoldable pub related_of : Related → Read RoundsAndPairs
-related_of (answers.Pairs rounds pairs) = found (record { rounds = rounds; pairs = pairs })
-related_of (answers.Refused cause) = refused (number_of cause)
-
 -- The relation query: rounds and the number of pairs, or the refusal; 13 where the output is shorter than the rows.
-unfoldable pub relation_query : List ℕ → List ℕ → Read RoundsAndPairs
+unfoldable pub relation_query : List ℕ → List ℕ → Read Related
 relation_query table out = do
   A ← judge table
   written (relation_bytes A) out
@@ -75,16 +66,18 @@ pub data Comparison : Type 0 where
   yes : Comparison
   rule : ℕ → Comparison
 
-unfoldable pub comparison_of : Compared → Read Comparison
-comparison_of compared.Yes = found yes
-comparison_of (compared.Rule i) = found (rule i)
-comparison_of (compared.Refused cause) = refused (number_of cause)
+unfoldable pub compared_by : Option ℕ → Comparison
+compared_by None = yes
+compared_by (Some i) = rule i
+
+unfoldable pub comparison_of : Result (Option ℕ) Refusal → Read Comparison
+comparison_of r = map_read compared_by (reading_of r)
 
 unfoldable pub is_yes : Comparison → Bool
 is_yes yes = true
 is_yes (rule i) = false
 
 -- The answer is the pair query's, and of a rule's number it holds that the rule is unmatched.
-pub record Compares (table : List ℕ) (q r : ℕ) (answer : Compared) : Type 0 where
+pub record Compares (table : List ℕ) (q r : ℕ) (answer : Result (Option ℕ) Refusal) : Type 0 where
   pub verdict : map_read is_yes (comparison_of answer) ≡ pair_query table q r
   pub unmatched : (A : Automaton) → judge table ≡ found A → (i : ℕ) → comparison_of answer ≡ found (rule i) → Unmatched A q r i

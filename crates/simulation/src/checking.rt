@@ -5,22 +5,23 @@ ghost use Rattle.indexing.specs.Inner.{IndexRoom};
 ghost use Rattle.trees.specs.Answers.{acceptance_of, finding_of};
 ghost use Rattle.simulation.specs.Check as spec;
 
-use automaton::{FEW_ROWS, Judged, ROWS, decode};
+use automaton::{Decoded, FEW_ROWS, ROWS, Refusal, decode};
 use indexing::{FEW_INDEX, INDEX};
 use trees::{Answer, accept_tree};
 
 // How many checks got each answer (document 01: the "gate"). A count stays at 4,294,967,295.
-#[derive(Clone, Copy)]
+#[derive(Clone, Copy, Debug, PartialEq, Eq)]
 pub struct Counts {
     pub accepted: u32,
     pub rejected: u32,
     pub refused: u32,
 }
 
-#[derive(Clone, Copy)]
+// The counts after a check, and its answer.
+#[derive(Clone, Copy, Debug, PartialEq, Eq)]
 pub struct Checked {
     pub counts: Counts,
-    pub answer: Answer,
+    pub answer: Result<Answer, Refusal>,
 }
 
 impl Counts {
@@ -36,24 +37,21 @@ impl Counts {
     }
 
     // One more of an answer.
-    fn with(self, answer: Answer) -> Self
+    fn with(self, answer: Result<Answer, Refusal>) -> Self
         ensures { result ≡ spec.counted self (acceptance_of answer) }
     {
         match answer {
-            Answer::Accepted => Counts {
+            Ok(Answer::Accepted) => Counts {
                 accepted: more(self.accepted),
-                rejected: self.rejected,
-                refused: self.refused,
+                ..self
             },
-            Answer::Rejected { .. } => Counts {
-                accepted: self.accepted,
+            Ok(Answer::Rejected(_)) => Counts {
                 rejected: more(self.rejected),
-                refused: self.refused,
+                ..self
             },
-            Answer::Refused(_) => Counts {
-                accepted: self.accepted,
-                rejected: self.rejected,
+            Err(_) => Counts {
                 refused: more(self.refused),
+                ..self
             },
         }
     }
@@ -63,7 +61,7 @@ impl Counts {
 fn more(count: u32) -> u32
     ensures { result ≡ spec.more count }
 {
-    if count < 4294967295 { count + 1 } else { count }
+    count.saturating_add(1)
 }
 
 // Checks a tree against a table: the answer, which names a subtree to look at where the tree is not accepted, and the counts with one more of it.
@@ -80,7 +78,7 @@ pub fn check(counts: Counts, table: &[u8], tree: &[u8]) -> Checked
 
 // Whether a table accepts a tree, and if not, the subtree to look at; or the first cause of refusal. A rule takes ten bytes at least, so a short table gets short arrays, which
 // are cleared sooner.
-fn check_tree(table: &[u8], tree: &[u8]) -> Answer
+fn check_tree(table: &[u8], tree: &[u8]) -> Result<Answer, Refusal>
     ensures { finding_of result ≡ spec.finding table.now tree.now }
 {
     let mut ranks: [u8; 256] = [0; 256];
@@ -101,15 +99,10 @@ fn check_tree_in(
     ranks: &mut [u8],
     rows: &mut [u8],
     index: &mut [u16],
-) -> Answer
+) -> Result<Answer, Refusal>
     requires { (256 ≤ length ranks.old) × (RowsRoom table.now rows.old × IndexRoom table.now index.old) }
     ensures { finding_of result ≡ spec.finding table.now tree.now }
 {
-    let decoded = decode(table, ranks, rows);
-    let finals = decoded.finals;
-    let judged = decoded.judged;
-    match judged {
-        Judged::Refused(cause) => Answer::Refused(cause),
-        Judged::Table(size) => accept_tree(size, finals, ranks, rows, index, tree),
-    }
+    let Decoded { size, finals } = decode(table, ranks, rows)?;
+    accept_tree(size, finals, ranks, rows, index, tree)
 }

@@ -6,5 +6,5 @@ mod query;
 
 // Calls for everybody, with their answers: they ask nothing of their caller.
 pub use checking::{Checked, Counts, check};
-pub use query::{Compared, Related, compare, relate};
-pub use trees::Answer;
+pub use query::{Related, compare, relate};
+pub use trees::{Answer, Subtree};

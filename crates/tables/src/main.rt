@@ -8,26 +8,15 @@ use std::io;
 use std::io::{Read, Write};
 
 fn main(rt: HostRuntime) -> io::Result<()> {
-    let mut input = rt.stdin();
-    let mut out = rt.stdout();
-    for _ in 0..1000000 {
-        if !one(&mut input, &mut out)? {
-            break;
-        }
-    }
-    Ok(())
+    cases::run(&mut rt.stdin(), &mut rt.stdout(), one)
 }
 
-// The next case: false where the input has ended.
+// What follows a case's name: false where the input has ended.
 fn one<R: Read, W: Write>(input: &mut R, out: &mut W) -> io::Result<bool> {
-    if !cases::next_case(input, out)? {
-        return Ok(false);
-    }
     let mut bytes = [0u8; 65536];
-    let field = cases::next_field(input, 4, &mut bytes)?;
-    if !field.there {
+    let Some(length) = cases::next_field(input, 4, &mut bytes)? else {
         return Ok(false);
-    }
-    case::report(out, &bytes[..field.length])?;
+    };
+    case::report(out, &bytes[..length])?;
     Ok(true)
 }

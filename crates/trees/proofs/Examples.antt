@@ -4,6 +4,7 @@ use Prim.Native.Nat.{ℕ}
 use mathlib.Core.Path.{◌≡◌, refl}
 use mathlib.Core.List.{List, [], ◌∷◌}
 use lib.ListN.{length, replicate}
+use Rattle.std.specs.Prelude.{None}
 use Rattle.lists.specs.Lists.{from, keep, any, among}
 use Rattle.sets.specs.Set.{member}
 use Rattle.sets.specs.Entries.{entry_at}
@@ -13,12 +14,10 @@ use Rattle.records.specs.Record.{end_of, is_whole, opened, body_of, encode_recor
 use Rattle.records.specs.Read.{found, refused, ◌>>=◌, ◌>>◌, check, map_read}
 use Rattle.automaton.proofs.Examples.{T}
 use Rattle.trees.specs.Postfix.{rank_on, single, is_tree_record}
-use Rattle.trees.specs.Subtree.{accepted, rejected, pointed}
+use Rattle.trees.specs.Subtree.{First, nowhere, first_at, first_of, accepted, rejected, pointed}
 use Rattle.trees.specs.Walk.{Waiting, Walk, start, have_in_order, leads_to, sizes_of, joined, is_none, noted, onto, advance, advance_all, closing}
 use Rattle.trees.specs.Inner.{stack_in, walk_in, nodes_finding}
 use Rattle.trees.specs.Holds.{walk_finding}
-use Rattle.trees.specs.declared.evaluation.First.{First}
-use Rattle.trees.specs.declared.evaluation.First.TheVariants.{Nowhere, At}
 
 -- A waiting tree, and what is held.
 abbrev tree : List ℕ → ℕ → Waiting
@@ -29,34 +28,34 @@ walk stack nodes first = record { stack = stack; nodes = nodes; first = first }
 
 -- So many leaves b wait.
 abbrev leaves : ℕ → Walk
-leaves n = walk (replicate n (tree (2 ∷ []) 1)) n Nowhere
+leaves n = walk (replicate n (tree (2 ∷ []) 1)) n nowhere
 
 abbrev height : Walk → ℕ
 height w = length w.stack
 
 pub record Walks : Type 0 where
   -- f(b,a) of B6, node by node: b belongs to 2, a to 0, 1 and 2, and f over them to 3, which is final.
-  pub after_b : advance T start 1 ≡ found (walk (tree (2 ∷ []) 1 ∷ []) 1 Nowhere)
-  pub after_a : advance T (walk (tree (2 ∷ []) 1 ∷ []) 1 Nowhere) 0 ≡ found (walk (tree (0 ∷ 1 ∷ 2 ∷ []) 1 ∷ tree (2 ∷ []) 1 ∷ []) 2 Nowhere)
-  pub after_f : advance T (walk (tree (0 ∷ 1 ∷ 2 ∷ []) 1 ∷ tree (2 ∷ []) 1 ∷ []) 2 Nowhere) 2 ≡ found (walk (tree (3 ∷ []) 3 ∷ []) 3 Nowhere)
-  pub whole : advance_all T start (1 ∷ 0 ∷ 2 ∷ []) ≡ found (walk (tree (3 ∷ []) 3 ∷ []) 3 Nowhere)
-  pub final : closing T (walk (tree (3 ∷ []) 3 ∷ []) 3 Nowhere) ≡ found accepted
+  pub after_b : advance T start 1 ≡ found (walk (tree (2 ∷ []) 1 ∷ []) 1 nowhere)
+  pub after_a : advance T (walk (tree (2 ∷ []) 1 ∷ []) 1 nowhere) 0 ≡ found (walk (tree (0 ∷ 1 ∷ 2 ∷ []) 1 ∷ tree (2 ∷ []) 1 ∷ []) 2 nowhere)
+  pub after_f : advance T (walk (tree (0 ∷ 1 ∷ 2 ∷ []) 1 ∷ tree (2 ∷ []) 1 ∷ []) 2 nowhere) 2 ≡ found (walk (tree (3 ∷ []) 3 ∷ []) 3 nowhere)
+  pub whole : advance_all T start (1 ∷ 0 ∷ 2 ∷ []) ≡ found (walk (tree (3 ∷ []) 3 ∷ []) 3 nowhere)
+  pub final : closing T (walk (tree (3 ∷ []) 3 ∷ []) 3 nowhere) ≡ found accepted
   -- In arrays, after b and a: sets in words, starts for sizes; what stands behind the second tree has no part in it.
-  pub in_arrays : walk_in (4 ∷ 0 ∷ 0 ∷ 0 ∷ 7 ∷ 0 ∷ 0 ∷ 0 ∷ 8 ∷ 0 ∷ 0 ∷ 0 ∷ []) (0 ∷ 1 ∷ 5 ∷ []) (record { height = 2; nodes = 2; first = Nowhere })
-      ≡ walk (tree (0 ∷ 1 ∷ 2 ∷ []) 1 ∷ tree (2 ∷ []) 1 ∷ []) 2 Nowhere
+  pub in_arrays : walk_in (4 ∷ 0 ∷ 0 ∷ 0 ∷ 7 ∷ 0 ∷ 0 ∷ 0 ∷ 8 ∷ 0 ∷ 0 ∷ 0 ∷ []) (0 ∷ 1 ∷ 5 ∷ []) (record { height = 2; nodes = 2; first = None })
+      ≡ walk (tree (0 ∷ 1 ∷ 2 ∷ []) 1 ∷ tree (2 ∷ []) 1 ∷ []) 2 nowhere
   -- f(f(a,a),a) of B8 belongs to no state: it is noted, and stays noted when f and b follow.
-  pub without_state : advance_all T start (0 ∷ 0 ∷ 2 ∷ 0 ∷ 2 ∷ []) ≡ found (walk (tree [] 5 ∷ []) 5 (At 4 5))
-  pub first_stays : advance_all T start (0 ∷ 0 ∷ 2 ∷ 0 ∷ 2 ∷ 1 ∷ 2 ∷ []) ≡ found (walk (tree [] 7 ∷ []) 7 (At 4 5))
-  pub named : closing T (walk (tree [] 7 ∷ []) 7 (At 4 5)) ≡ found (rejected 4 5)
+  pub without_state : advance_all T start (0 ∷ 0 ∷ 2 ∷ 0 ∷ 2 ∷ []) ≡ found (walk (tree [] 5 ∷ []) 5 (first_at 4 5))
+  pub first_stays : advance_all T start (0 ∷ 0 ∷ 2 ∷ 0 ∷ 2 ∷ 1 ∷ 2 ∷ []) ≡ found (walk (tree [] 7 ∷ []) 7 (first_at 4 5))
+  pub named : closing T (walk (tree [] 7 ∷ []) 7 (first_at 4 5)) ≡ found (rejected 4 5)
   -- Children are taken from left to right: f(4,0) has a rule, f(0,4) has none. No tree belongs to 4.
-  pub left_to_right : advance T (walk (tree (0 ∷ []) 7 ∷ tree (4 ∷ []) 9 ∷ tree (1 ∷ []) 2 ∷ []) 40 Nowhere) 2
-      ≡ found (walk (tree (4 ∷ []) 17 ∷ tree (1 ∷ []) 2 ∷ []) 41 Nowhere)
-  pub right_to_left : advance T (walk (tree (4 ∷ []) 9 ∷ tree (0 ∷ []) 7 ∷ tree (1 ∷ []) 2 ∷ []) 40 Nowhere) 2
-      ≡ found (walk (tree [] 17 ∷ tree (1 ∷ []) 2 ∷ []) 41 (At 40 17))
+  pub left_to_right : advance T (walk (tree (0 ∷ []) 7 ∷ tree (4 ∷ []) 9 ∷ tree (1 ∷ []) 2 ∷ []) 40 nowhere) 2
+      ≡ found (walk (tree (4 ∷ []) 17 ∷ tree (1 ∷ []) 2 ∷ []) 41 nowhere)
+  pub right_to_left : advance T (walk (tree (4 ∷ []) 9 ∷ tree (0 ∷ []) 7 ∷ tree (1 ∷ []) 2 ∷ []) 40 nowhere) 2
+      ≡ found (walk (tree [] 17 ∷ tree (1 ∷ []) 2 ∷ []) 41 (first_at 40 17))
   -- What is held decides: a first node is held, and still the tree is accepted; and the whole tree is named by the number of nodes, whatever its own
   -- size says.
-  pub accepted_all_the_same : closing T (walk (tree (3 ∷ []) 3 ∷ []) 9 (At 3 2)) ≡ found accepted
-  pub whole_named : closing T (walk (tree (2 ∷ []) 1 ∷ []) 9 Nowhere) ≡ found (rejected 8 9)
+  pub accepted_all_the_same : closing T (walk (tree (3 ∷ []) 3 ∷ []) 9 (first_at 3 2)) ≡ found accepted
+  pub whole_named : closing T (walk (tree (2 ∷ []) 1 ∷ []) 9 nowhere) ≡ found (rejected 8 9)
   -- 9, 10, and the 10 at the end, with no tree there and with two.
   pub unknown_symbol : advance T start 3 ≡ refused 9
   pub too_few : advance T start 2 ≡ refused 10
@@ -73,7 +72,7 @@ pub record Walks : Type 0 where
   pub no_nodes : walk_finding T (encode_record 16 []) ≡ refused 10
 
 pub walks : Walks
-unfolding start advance advance_all closing nodes_finding walk_finding onto joined leads_to have_in_order sizes_of is_none noted pointed rank_on single is_tree_record
+unfolding start advance advance_all closing nodes_finding walk_finding onto joined leads_to have_in_order sizes_of is_none noted first_of pointed rank_on single is_tree_record
     walk_in stack_in states_in entry_at member from keep any among opened is_whole end_of body_of number2 number4 numbers encode_record bytes2 bytes4 fields check map_read ◌>>=◌ ◌>>◌
 walks = record {
   after_b = refl;

@@ -14,9 +14,7 @@ use Rattle.automaton.specs.Automaton.{Automaton}
 use Rattle.trees.specs.Tree.{Tree, Trees, node, nil, cons, accepts}
 use Rattle.trees.specs.Postfix.{postfix}
 use Rattle.trees.specs.Subtree.{subtrees, subtrees_in, smaller, has_state, first_bad, accepted, rejected, is_accepted}
-use Rattle.trees.specs.Subtree.{pointed, finding_in, Named}
-use Rattle.trees.specs.declared.evaluation.First.{First}
-use Rattle.trees.specs.declared.evaluation.First.TheVariants.{Nowhere, At}
+use Rattle.trees.specs.Subtree.{First, nowhere, first_at, pointed, finding_in, Named}
 use Rattle.trees.proofs.Subtrees.{top, postfix_tops, length_subtrees}
 
 -- A tree comes right after the smaller ones inside it.
@@ -89,7 +87,7 @@ module _ (A : Automaton) where
     earlier : HaveStates before
     itself : has_state A tree ≡ false
 
-  first_stops : (seen ts : List Tree) {i size : ℕ} → HaveStates seen → first_bad A (length seen) ts ≡ At i size → Stop (seen ++ ts) i size
+  first_stops : (seen ts : List Tree) {i size : ℕ} → HaveStates seen → first_bad A (length seen) ts ≡ first_at i size → Stop (seen ++ ts) i size
   unfolding first_bad
   first_stops seen [] h e = absurd (let z : ◌≡◌ {A = ℕ} 0 1 = cc in omega arith)
   first_stops seen (t ∷ ts) {i} {size} h e =
@@ -97,19 +95,19 @@ module _ (A : Automaton) where
       go (has_state A t) refl (λ has f. first_stops (seen ++ (t ∷ [])) ts (all_append h (also has none)) (rw more f)) e
     where
       go : (b : Bool) → has_state A t ≡ b
-          → (has_state A t ≡ true → first_bad A (suc (length seen)) ts ≡ At i size → Stop ((seen ++ (t ∷ [])) ++ ts) i size)
-          → cond b (first_bad A (suc (length seen)) ts) (At (length seen) (length (postfix t))) ≡ At i size → Stop (seen ++ (t ∷ ts)) i size
+          → (has_state A t ≡ true → first_bad A (suc (length seen)) ts ≡ first_at i size → Stop ((seen ++ (t ∷ [])) ++ ts) i size)
+          → cond b (first_bad A (suc (length seen)) ts) (first_at (length seen) (length (postfix t))) ≡ first_at i size → Stop (seen ++ (t ∷ ts)) i size
       go true has later f = rw append_assoc at (later has f)
       go false has later f =
           record { tree = t; before = seen; after = ts; all = refl; place = cc; nodes = cc; earlier = h; itself = has }
 
-  first_passes : (n : ℕ) (ts : List Tree) → first_bad A n ts ≡ Nowhere → HaveStates ts
+  first_passes : (n : ℕ) (ts : List Tree) → first_bad A n ts ≡ nowhere → HaveStates ts
   unfolding first_bad
   first_passes n [] e = none
   first_passes n (t ∷ ts) e = go (has_state A t) refl (first_passes (suc n) ts) e
     where
-      go : (b : Bool) → has_state A t ≡ b → (first_bad A (suc n) ts ≡ Nowhere → HaveStates ts)
-          → cond b (first_bad A (suc n) ts) (At n (length (postfix t))) ≡ Nowhere → HaveStates (t ∷ ts)
+      go : (b : Bool) → has_state A t ≡ b → (first_bad A (suc n) ts ≡ nowhere → HaveStates ts)
+          → cond b (first_bad A (suc n) ts) (first_at n (length (postfix t))) ≡ nowhere → HaveStates (t ∷ ts)
       go true has later f = also has (later f)
       go false has later f = absurd (let z : ◌≡◌ {A = ℕ} 0 1 = cc in omega arith)
 
@@ -136,12 +134,12 @@ module _ (A : Automaton) where
     named_by : {i size : ℕ} (first : First) → first_bad A 0 (subtrees t) ≡ first → pointed first (length (postfix t)) ≡ rejected i size
         → Named A t i size
     unfolding pointed
-    named_by {i} {size} (At j n) f e =
+    named_by {i} {size} (first_at j n) f e =
         let s = first_stops [] (subtrees t) none f in
         let place : j ≡ i = cc in
         let nodes : n ≡ size = cc in
         named_at s.tree s.before s.after s.all (s.place ∙ place) (s.nodes ∙ nodes) s.earlier (inl s.itself)
-    named_by {i} {size} Nowhere f e =
+    named_by {i} {size} nowhere f e =
         let place : length (postfix t) - 1 ≡ i = cc in
         let have = rw (subtrees_smaller t) at (first_passes 0 (subtrees t) f) in
         named_at t (smaller t) [] (subtrees_smaller t) (omega (arith, length_smaller t)) (cc) (rw (take-append_seam (smaller t) (t ∷ [])) at (all_take (length (smaller t)) (smaller t ++ (t ∷ [])) have)) (inr refl)
@@ -157,5 +155,5 @@ finding_accepts A t = go (accepts A t) (first_bad A 0 (subtrees t))
   where
     go : (b : Bool) (first : First) → is_accepted (cond b accepted (pointed first (length (postfix t)))) ≡ b
     go true first = refl
-    go false (At i size) = refl
-    go false Nowhere = refl
+    go false (first_at i size) = refl
+    go false nowhere = refl

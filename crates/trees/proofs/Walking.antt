@@ -25,13 +25,11 @@ use Rattle.records.proofs.Reading.{bind_bind, bind_found, found_same}
 use Rattle.automaton.specs.Automaton.{Automaton, WellFormed}
 use Rattle.trees.specs.Tree.{Tree, node, belongs, belong_in_order, accepts}
 use Rattle.trees.specs.Postfix.{trees_in, rank_on, push, push_all, single, is_tree_record, judge_tree, postfix, postfixes}
-use Rattle.trees.specs.Subtree.{subtrees, has_state, first_bad, finding_in}
+use Rattle.trees.specs.Subtree.{subtrees, has_state, First, nowhere, first_at, first_bad, finding_in}
 use Rattle.trees.specs.Walk.{Waiting, Walk, start, have_in_order, leads_to, sizes_of, joined, is_none, noted, onto, advance, advance_all, closing}
 use Rattle.trees.specs.Inner.{Holdable, nodes_finding, tree_finding}
 use Rattle.trees.specs.Holds as holds
 use Rattle.trees.specs.Holds.{walk_finding, read_trees, StatesBelow, FirstBelow}
-use Rattle.trees.specs.declared.evaluation.First.{First}
-use Rattle.trees.specs.declared.evaluation.First.TheVariants.{Nowhere, At}
 use Rattle.trees.proofs.Postfix.{ranked}
 use Rattle.trees.proofs.Subtrees.{length_subtrees, read_node, read_one}
 
@@ -73,7 +71,7 @@ module _ (A : Automaton) where
   unfolding first_bad noted has_state held
   first_more i [] t = rw (is_none_kept, add-zero) (go (any (belongs A.rules t) (from 0 A.states)))
     where
-      go : (b : Bool) → cond b Nowhere (At i (length (postfix t))) ≡ cond (not b) (At i (length (postfix t))) Nowhere
+      go : (b : Bool) → cond b nowhere (first_at i (length (postfix t))) ≡ cond (not b) (first_at i (length (postfix t))) nowhere
       go true = refl
       go false = refl
   first_more i (s ∷ ts) t = go (any (belongs A.rules s) (from 0 A.states)) (rw suc-add at (first_more (suc i) ts t))
@@ -81,8 +79,8 @@ module _ (A : Automaton) where
       go : (b : Bool)
           → first_bad A (suc i) (ts ++ (t ∷ []))
           ≡ noted (first_bad A (suc i) ts) (suc (i + length ts)) (held t).size (is_none (held t).states)
-          → cond b (first_bad A (suc i) (ts ++ (t ∷ []))) (At i (length (postfix s)))
-          ≡ noted (cond b (first_bad A (suc i) ts) (At i (length (postfix s)))) (i + suc (length ts)) (held t).size (is_none (held t).states)
+          → cond b (first_bad A (suc i) (ts ++ (t ∷ []))) (first_at i (length (postfix s)))
+          ≡ noted (cond b (first_bad A (suc i) ts) (first_at i (length (postfix s)))) (i + suc (length ts)) (held t).size (is_none (held t).states)
       go true h = rw add-suc h
       go false h = refl
 
@@ -219,9 +217,9 @@ sizes_parts r ws = go r ws [] ∙ add-zero (sizes_of ws)
 first_below : (first : First) (nodes size : ℕ) (bad : Bool) → FirstBelow (suc nodes) first → size ≤ suc nodes
     → FirstBelow (suc (suc nodes)) (noted first nodes size bad)
 unfolding noted FirstBelow
-first_below (At i s) nodes size bad (low, few) most = (omega arith, omega arith)
-first_below Nowhere nodes size true b most = (omega arith, omega arith)
-first_below Nowhere nodes size false b most = tt
+first_below (first_at i s) nodes size bad (low, few) most = (omega arith, omega arith)
+first_below nowhere nodes size true b most = (omega arith, omega arith)
+first_below nowhere nodes size false b most = tt
 
 -- What holds of every walk with an automaton from the start on: its trees belong to states of the automaton alone, each once and in order; they are at
 -- most 1,024, and no more than the nodes, which their sizes add up to; a first node and its size are no more than the nodes either.

@@ -1,17 +1,22 @@
--- What the code's answer to a tree says: accepted or not, and the subtree that it names, or document 01's number of the refusal.
-use Rattle.std.specs.Prelude.{Bool, true, false}
-use Rattle.records.specs.Refusal.{number_of}
-use Rattle.records.specs.Read.{Read, found, refused}
+-- What the code's answer to a tree says: accepted or not, and the subtree that it names.
+use Rattle.std.specs.Prelude.{Bool, true, false, Result}
+use Rattle.records.specs.Answers.{reading_of}
+use Rattle.records.specs.Read.{Read, map_read}
+use Rattle.records.specs.declared.refusal.Refusal.{Refusal}
 use Rattle.trees.specs.Subtree.{Finding, accepted, rejected}
 use Rattle.trees.specs.declared.evaluation.Answer.{Answer}
-use Rattle.trees.specs.declared.evaluation.Answer.TheVariants.{Accepted, Rejected, Refused}
+use Rattle.trees.specs.declared.evaluation.Answer.TheVariants.{Accepted, Rejected}
 
-unfoldable pub acceptance_of : Answer → Read Bool
-acceptance_of Accepted = found true
-acceptance_of (Rejected i size) = found false
-acceptance_of (Refused cause) = refused (number_of cause)
+unfoldable pub is_acceptance : Answer → Bool
+is_acceptance Accepted = true
+is_acceptance (Rejected t) = false
 
-unfoldable pub finding_of : Answer → Read Finding
-finding_of Accepted = found accepted
-finding_of (Rejected i size) = found (rejected i size)
-finding_of (Refused cause) = refused (number_of cause)
+unfoldable pub named_by : Answer → Finding
+named_by Accepted = accepted
+named_by (Rejected t) = rejected t.node t.size
+
+unfoldable pub acceptance_of : Result Answer Refusal → Read Bool
+acceptance_of r = map_read is_acceptance (reading_of r)
+
+unfoldable pub finding_of : Result Answer Refusal → Read Finding
+finding_of r = map_read named_by (reading_of r)

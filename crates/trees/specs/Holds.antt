@@ -9,11 +9,9 @@ use Rattle.records.specs.Read.{Read, ◌>>◌, check}
 use Rattle.automaton.specs.Automaton.{Automaton}
 use Rattle.trees.specs.Tree.{Tree, belongs}
 use Rattle.trees.specs.Postfix.{trees_in, is_tree_record, postfix}
-use Rattle.trees.specs.Subtree.{subtrees_in, first_bad, Finding}
+use Rattle.trees.specs.Subtree.{subtrees_in, First, nowhere, first_at, first_of, first_bad, Finding}
 use Rattle.trees.specs.Walk.{Waiting, Walk, sizes_of}
 use Rattle.trees.specs.Inner.{StackRoom, walk_in, nodes_finding}
-use Rattle.trees.specs.declared.evaluation.First.{First}
-use Rattle.trees.specs.declared.evaluation.First.TheVariants.{Nowhere, At}
 use Rattle.trees.specs.declared.evaluation.Held.{Held}
 
 -- What the walk finds of a tree in bytes: 8, then the node limit (11), from the record and its length; then the walk over the body's symbols.
@@ -49,14 +47,14 @@ pub record FitsArrays (words starts : List ℕ) (held : Held) : Type 0 where
 
 -- A first node and the size of its tree, if there is one, are below n.
 unfoldable pub FirstBelow : ℕ → First → Type 0
-FirstBelow n Nowhere = Unit {0}
-FirstBelow n (At i size) = (i < n) × (size < n)
+FirstBelow n nowhere = Unit {0}
+FirstBelow n (first_at i size) = (i < n) × (size < n)
 
 -- Arrays that hold a walk: what is held fits them, and their numbers and those of the first node have the bits of their types.
 pub record Holding (words starts : List ℕ) (held : Held) (w : Walk) : Type 0 where
   pub fits : FitsArrays words starts held
   pub bits : ((i : ℕ) → get_or words i 0 < 2 ^ 64) × ((i : ℕ) → get_or starts i 0 < 2 ^ 16)
-  pub first : FirstBelow (2 ^ 64) held.first
+  pub first : FirstBelow (2 ^ 64) (first_of held.first)
   pub holds : walk_in words starts held ≡ w
 
 -- Arrays with the same sets and starts up to a height.

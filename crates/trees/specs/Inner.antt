@@ -1,24 +1,21 @@
 -- What the contracts of evaluation cite; no call for everybody cites any of it. Places that an array does not have, where `get_or` would give
 -- its default, and differences below 0, where `-` would give 0, are ruled out by the bounds in the contracts that cite these. Only the closing takes
 -- any starts: it looks at no size.
-use Rattle.std.specs.Prelude.{ℕ, zero, suc, ◌-◌, ◌*◌, ◌≤◌, ◌<◌, ◌≡◌, List, [], ◌∷◌, Bool, true, false, ◌&&◌, length, drop, get_or, eqb}
+use Rattle.std.specs.Prelude.{ℕ, zero, suc, ◌-◌, ◌*◌, ◌≤◌, ◌<◌, ◌≡◌, List, [], ◌∷◌, Bool, true, ◌&&◌, length, drop, get_or, eqb, Result, Ok, Err}
 use Rattle.lists.specs.Lists.{All}
 use Rattle.sets.specs.Set.{member, words}
 use Rattle.sets.specs.Entries.{entry_at}
 use Rattle.sets.specs.Inner.{states_in}
-use Rattle.records.specs.Refusal.{number_of}
-use Rattle.records.specs.Read.{Read, found, refused, ◌>>=◌}
+use Rattle.records.specs.Answers.{reading_of}
+use Rattle.records.specs.Read.{Read, found, map_read, ◌>>=◌}
 use Rattle.automaton.specs.Automaton.{Rule, Automaton, WellFormed}
 use Rattle.automaton.specs.Row.{rule_at, rules_in, Rows}
 use Rattle.indexing.specs.Index.{Indexes}
 use Rattle.trees.specs.Postfix.{judge_tree}
-use Rattle.trees.specs.Subtree.{Finding, finding_in}
+use Rattle.trees.specs.Subtree.{Finding, first_of, finding_in}
 use Rattle.trees.specs.Walk.{Waiting, Walk, start, advance_all, closing}
-use Rattle.trees.specs.declared.evaluation.First.{First}
-use Rattle.trees.specs.declared.evaluation.First.TheVariants.{Nowhere, At}
 use Rattle.trees.specs.declared.evaluation.Held.{Held}
-use Rattle.trees.specs.declared.evaluation.Stepped.{Stepped}
-use Rattle.trees.specs.declared.evaluation.Stepped.TheVariants.{On, Refused}
+use Rattle.records.specs.declared.refusal.Refusal.{Refusal}
 
 -- What evaluation works on: arrays that hold the ranks and the rules of a well-formed automaton, and the index of its rules by symbol.
 pub record Evaluable (A : Automaton) (ranks rows index : List ℕ) : Type 0 where
@@ -54,11 +51,10 @@ stack_in words starts (suc e) end =
     record { states = states_in 256 (entry_at words e); size = end - get_or starts e 0 } ∷ stack_in words starts e (get_or starts e 0)
 
 unfoldable pub walk_in : List ℕ → List ℕ → Held → Walk
-walk_in words starts held = record { stack = stack_in words starts held.height held.nodes; nodes = held.nodes; first = held.first }
+walk_in words starts held = record { stack = stack_in words starts held.height held.nodes; nodes = held.nodes; first = first_of held.first }
 
-unfoldable pub stepped_of : List ℕ → List ℕ → Stepped → Read Walk
-stepped_of words starts (On held) = found (walk_in words starts held)
-stepped_of words starts (Refused cause) = refused (number_of cause)
+unfoldable pub stepped_of : List ℕ → List ℕ → Result Held Refusal → Read Walk
+stepped_of words starts r = map_read (walk_in words starts) (reading_of r)
 
 -- The starts of so many trees that fill the nodes up to an end: the lowest starts at 0, each other one where the one under it ends, and none ends
 -- before it starts. Without trees there are no nodes.
@@ -67,19 +63,15 @@ Consecutive starts zero end = end ≡ 0
 Consecutive starts (suc e) end = (get_or starts e 0 ≤ end) × Consecutive starts e (get_or starts e 0)
 
 -- The same of what a step leaves; a refusal leaves nothing.
-unfoldable pub LeavesConsecutive : List ℕ → Stepped → Type 0
-LeavesConsecutive starts (On held) = Consecutive starts held.height held.nodes
-LeavesConsecutive starts (Refused cause) = Unit {0}
+unfoldable pub LeavesConsecutive : List ℕ → Result Held Refusal → Type 0
+LeavesConsecutive starts (Ok held) = Consecutive starts held.height held.nodes
+LeavesConsecutive starts (Err cause) = Unit {0}
 
 -- The start of a node's tree, which is the number of its leftmost leaf: the node itself, if it has no children, and otherwise the start of the first of
 -- them, which stands at place e.
 unfoldable pub start_of : List ℕ → ℕ → ℕ → ℕ → ℕ
 start_of starts e zero node = node
 start_of starts e (suc r) node = get_or starts e 0
-
-unfoldable pub is_somewhere : First → Bool
-is_somewhere (At i size) = true
-is_somewhere Nowhere = false
 
 -- What holds of every walk with an automaton: its trees belong to states of the automaton alone, they are no more than the nodes, and at most 1,024.
 pub record Holdable (A : Automaton) (w : Walk) : Type 0 where

@@ -1,12 +1,11 @@
 -- The subtree that a check names where it does not accept a tree (document 02: the "piece" to look at): the first in postfix order that belongs to
 -- no state; or the whole tree, where each belongs to one.
-use Rattle.std.specs.Prelude.{ℕ, suc, ◌-◌, ◌≡◌, ◌⊎◌, List, [], ◌∷◌, ◌++◌, Bool, true, false, cond, length, take, drop}
+use Rattle.std.specs.Prelude.{ℕ, suc, ◌-◌, ◌≡◌, ◌⊎◌, List, [], ◌∷◌, ◌++◌, Bool, true, false, cond, length, take, drop, Option, Some, None}
 use Rattle.lists.specs.Lists.{All, from, any}
 use Rattle.automaton.specs.Automaton.{Automaton}
 use Rattle.trees.specs.Tree.{Tree, Trees, node, nil, cons, belongs, accepts}
 use Rattle.trees.specs.Postfix.{postfix}
-use Rattle.trees.specs.declared.evaluation.First.{First}
-use Rattle.trees.specs.declared.evaluation.First.TheVariants.{Nowhere, At}
+use Rattle.trees.specs.declared.evaluation.Subtree.{Subtree}
 
 -- The subtrees of a tree, each where its top node stands in postfix order. The last is the tree itself.
 unfoldable mutual
@@ -25,11 +24,20 @@ smaller (node f ts) = subtrees_in ts
 unfoldable pub has_state : Automaton → Tree → Bool
 has_state A t = any (belongs A.rules t) (from 0 A.states)
 
--- The first of some trees that belongs to no state: its number, where they are numbered from i on, and how many nodes it has. `Nowhere` if each
+-- The first node whose tree belongs to no state, and how many nodes that tree has; or there is none. And what the code holds, in these words.
+pub data First : Type 0 where
+  nowhere : First
+  first_at : (node size : ℕ) → First
+
+unfoldable pub first_of : Option Subtree → First
+first_of None = nowhere
+first_of (Some t) = first_at t.node t.size
+
+-- The first of some trees that belongs to no state: its number, where they are numbered from i on, and how many nodes it has. `nowhere` if each
 -- belongs to one.
 unfoldable pub first_bad : Automaton → ℕ → List Tree → First
-first_bad A i [] = Nowhere
-first_bad A i (t ∷ ts) = cond (has_state A t) (first_bad A (suc i) ts) (At i (length (postfix t)))
+first_bad A i [] = nowhere
+first_bad A i (t ∷ ts) = cond (has_state A t) (first_bad A (suc i) ts) (first_at i (length (postfix t)))
 
 -- What is found of a tree: accepted; or not, and a subtree, by the number of its top node in postfix order, counted from 0, and by how many
 -- nodes it has.
@@ -43,8 +51,8 @@ is_accepted (rejected i size) = false
 
 -- The first subtree that belongs to no state; where each belongs to one, the whole tree of so many nodes, at least one, whose top node is the last.
 unfoldable pub pointed : First → ℕ → Finding
-pointed (At i size) nodes = rejected i size
-pointed Nowhere nodes = rejected (nodes - 1) nodes
+pointed (first_at i size) nodes = rejected i size
+pointed nowhere nodes = rejected (nodes - 1) nodes
 
 unfoldable pub finding_in : Automaton → Tree → Finding
 finding_in A t = cond (accepts A t) accepted (pointed (first_bad A 0 (subtrees t)) (length (postfix t)))

@@ -5,9 +5,7 @@ use Rattle.lists.specs.Lists.{from, keep, any, among}
 use Rattle.records.specs.Read.{Read, found, ◌>>=◌}
 use Rattle.automaton.specs.Automaton.{Rule, Automaton}
 use Rattle.trees.specs.Postfix.{rank_on, single}
-use Rattle.trees.specs.Subtree.{Finding, accepted, pointed}
-use Rattle.trees.specs.declared.evaluation.First.{First}
-use Rattle.trees.specs.declared.evaluation.First.TheVariants.{Nowhere, At}
+use Rattle.trees.specs.Subtree.{First, nowhere, first_at, Finding, accepted, pointed}
 
 -- A finished tree on the stack: the states that it belongs to, in order, and how many nodes it has.
 pub record Waiting : Type 0 where
@@ -22,7 +20,7 @@ pub record Walk : Type 0 where
   pub first : First
 
 unfoldable pub start : Walk
-start = record { stack = []; nodes = 0; first = Nowhere }
+start = record { stack = []; nodes = 0; first = nowhere }
 
 -- Waiting trees belong to states, one each and in order.
 unfoldable pub have_in_order : List Waiting → List ℕ → Bool
@@ -49,8 +47,8 @@ is_none (q ∷ qs) = false
 
 -- The first node whose tree belongs to no state, after one more node: the number of that one, its tree's size and whether its tree belongs to none.
 unfoldable pub noted : First → ℕ → ℕ → Bool → First
-noted (At i s) number size none = At i s
-noted Nowhere number size none = cond none (At number size) Nowhere
+noted (first_at i s) number size none = first_at i s
+noted nowhere number size none = cond none (first_at number size) nowhere
 
 -- The next node's tree stands on what it leaves of the stack.
 unfoldable pub onto : Walk → Waiting → List Waiting → Walk

@@ -17,44 +17,37 @@ ghost use Rattle.automaton.specs.Decoded.{automaton_in};
 ghost use Rattle.trees.specs.Postfix.{is_tree_record};
 ghost use Rattle.trees.specs.Walk as walk;
 ghost use Rattle.trees.specs.Walk.{advance, advance_all, closing};
+ghost use Rattle.trees.specs.Subtree.{first_of};
 ghost use Rattle.trees.specs.Answers.{finding_of};
 ghost use Rattle.trees.specs.Inner.{Evaluable, StackRoom, in_order, rule_gives, gathered, start_of, Consecutive, LeavesConsecutive};
-ghost use Rattle.trees.specs.Inner.{walk_in, stepped_of, is_somewhere, Holdable, nodes_finding, tree_finding};
+ghost use Rattle.trees.specs.Inner.{walk_in, stepped_of, Holdable, nodes_finding, tree_finding};
 
 use automaton::{Size, children_of_rank, target_of};
 use indexing::{Key, index_rules, rules_of};
-use records::{Opened, Refusal, body, open};
+use records::{Kind, Opened, Refusal, body, number2, open};
 use sets::{StateSet, entry, put_entry};
 
-// Of a tree that is not accepted, a subtree by the number of its top node in postfix order, counted from 0, and by how many nodes it has.
-#[derive(Clone, Copy)]
-pub enum Answer {
-    Accepted,
-    Rejected { node: usize, size: usize },
-    Refused(Refusal),
+// A subtree, by the number of its top node in postfix order, counted from 0, and by how many nodes it has.
+#[derive(Clone, Copy, Debug, PartialEq, Eq)]
+pub struct Subtree {
+    pub node: usize,
+    pub size: usize,
 }
 
-// The first node whose tree belongs to no state, and how many nodes that tree has.
-#[derive(Clone, Copy)]
-pub enum First {
-    Nowhere,
-    At { node: usize, size: usize },
+// Of a tree that is not accepted, the subtree that is named.
+#[derive(Clone, Copy, Debug, PartialEq, Eq)]
+pub enum Answer {
+    Accepted,
+    Rejected(Subtree),
 }
 
 // What the walk holds between nodes, beside the stack: its height, how many nodes there were, and the first of them whose tree belongs to no state,
 // with the size of that tree.
-#[derive(Clone, Copy)]
+#[derive(Clone, Copy, Debug, PartialEq, Eq)]
 pub struct Held {
     pub height: usize,
     pub nodes: usize,
-    pub first: First,
-}
-
-// What is held next, or the refusal.
-#[derive(Clone, Copy)]
-pub enum Stepped {
-    On(Held),
-    Refused(Refusal),
+    pub first: Option<Subtree>,
 }
 
 // 1 if state q is in set e, and 0 if not: a number, so that no branch hangs on it.
@@ -71,7 +64,7 @@ fn fits(sets: &[u64], children: &[u8]) -> u64
     requires { 4 * length children.now ≤ length sets.now }
     ensures { result ≡ cond (in_order sets.now children.now) 1 0 }
 {
-    if children.len() == 0 {
+    if children.is_empty() {
         return 1;
     }
     let first = bit_at(sets, 0, children[0]);
@@ -79,10 +72,8 @@ fn fits(sets: &[u64], children: &[u8]) -> u64
         return first;
     }
     let mut bit = first & bit_at(sets, 1, children[1]);
-    let mut j: usize = 2;
-    while j < children.len() {
-        bit = bit & bit_at(sets, j, children[j]);
-        j += 1;
+    for j in 2..children.len() {
+        bit &= bit_at(sets, j, children[j]);
     }
     bit
 }
@@ -92,14 +83,7 @@ fn has_empty(sets: &[u64], count: usize) -> bool
     requires { 4 * count ≤ length sets.now }
     ensures { result ≡ any (λ (e : ℕ). same_set (entry_at sets.now e) empty_set) (from 0 count) }
 {
-    let mut e: usize = 0;
-    while e < count {
-        if entry(sets, e).same(StateSet::empty()) {
-            return true;
-        }
-        e += 1;
-    }
-    false
+    (0..count).any(|e| entry(sets, e).same(StateSet::empty()))
 }
 
 // Adds state q to a set if `bit` is 1, and leaves the set if it is 0. The words of the set stand two places apart: so they are read back one by
@@ -109,8 +93,8 @@ fn add_if(spread: &mut [u64], q: u8, bit: u64)
     ensures { gathered spread.new
         ≡ cond (eqb bit 1) (with_state (gathered spread.old) q) (gathered spread.old) }
 {
-    let w = 2 * (q / 64) as usize;
-    spread[w] = spread[w] | bit << (q % 64);
+    let w = 2 * usize::from(q / 64);
+    spread[w] |= bit << (q % 64);
 }
 
 // The targets of those rules, by their numbers and each with `rank` children, whose children are in the sets, one each and in order. With
@@ -121,18 +105,14 @@ fn targets(rows: &[u8], numbers: &[u16], sets: &[u64], rank: usize, test_empty: 
     ensures { Has result.words
         (λ (q : ℕ). any (rule_gives rows.now sets.now q) numbers.now) }
 {
-    if test_empty {
-        if has_empty(sets, rank) {
-            return StateSet::empty();
-        }
+    if test_empty && has_empty(sets, rank) {
+        return StateSet::empty();
     }
     let mut spread: [u64; 8] = [0; 8];
-    let mut j: usize = 0;
-    while j < numbers.len() {
-        let i = numbers[j] as usize;
+    for i in numbers {
+        let i = usize::from(*i);
         let bit = fits(sets, children_of_rank(rows, i, rank));
         add_if(&mut spread, target_of(rows, i), bit);
-        j += 1;
     }
     StateSet {
         words: [spread[0], spread[2], spread[4], spread[6]],
@@ -151,33 +131,17 @@ fn put_start(starts: &mut [u16], e: usize, rank: usize, node: usize)
 }
 
 // The first node whose tree belongs to no state, after one more, whose tree has this start and belongs to these states.
-fn noted(first: First, node: usize, start: usize, states: StateSet) -> First
+fn noted(first: Option<Subtree>, node: usize, start: usize, states: StateSet) -> Option<Subtree>
     requires { (start ≤ node) × (node < 16384) }
-    ensures { result ≡ walk.noted first node (node + 1 - start) (same_set states.words empty_set) }
+    ensures { first_of result ≡ walk.noted (first_of first) node (node + 1 - start) (same_set states.words empty_set) }
 {
-    match first {
-        First::At { node: i, size: s } => First::At { node: i, size: s },
-        First::Nowhere => {
-            if states.same(StateSet::empty()) {
-                First::At {
-                    node,
-                    size: node + 1 - start,
-                }
-            } else {
-                First::Nowhere
-            }
-        }
+    if first.is_none() && states.same(StateSet::empty()) {
+        return Some(Subtree {
+            node,
+            size: node + 1 - start,
+        });
     }
-}
-
-// Whether there is such a node.
-fn is_somewhere(first: First) -> bool
-    ensures { result ≡ is_somewhere first }
-{
-    match first {
-        First::At { .. } => true,
-        First::Nowhere => false,
-    }
+    first
 }
 
 // One node: its tree takes the place of its children's on the stack. In a walk no set there is empty before the first tree without a state, so that sets
@@ -190,7 +154,7 @@ fn step(
     stack: &mut [u64],
     starts: &mut [u16],
     held: Held,
-) -> Stepped
+) -> Result<Held, Refusal>
     requires evaluable { (A : Automaton) × Evaluable A ranks.now rows.now index.now }
     requires height_bound { (held.height ≤ 1024) × StackRoom (held.height + 1) stack.old starts.old }
     requires nodes_bound { (held.nodes < 16384) × Consecutive starts.old held.height held.nodes }
@@ -200,37 +164,29 @@ fn step(
     ensures leaves_consecutive { LeavesConsecutive starts.new result }
 {
     if symbol >= ranks.len() {
-        return Stepped::Refused(Refusal::UnknownSymbol);
+        return Err(Refusal::UnknownSymbol);
     }
     let rank = ranks[symbol] as usize;
     let height = held.height;
     if height < rank {
-        return Stepped::Refused(Refusal::Unbalanced);
+        return Err(Refusal::Unbalanced);
     }
     let e = height - rank;
     if e >= 1024 {
-        return Stepped::Refused(Refusal::TreeAboveLimit);
+        return Err(Refusal::TreeAboveLimit);
     }
     let first = held.first;
     let nodes = held.nodes;
     let numbers = rules_of(index, symbol);
-    let set = targets(rows, numbers, &stack[4 * e..], rank, is_somewhere(first));
+    let set = targets(rows, numbers, &stack[4 * e..], rank, first.is_some());
     put_entry(stack, e, set);
     put_start(starts, e, rank, nodes);
     let start = starts[e] as usize;
-    Stepped::On(Held {
+    Ok(Held {
         height: e + 1,
         nodes: nodes + 1,
         first: noted(first, nodes, start, set),
     })
-}
-
-// The two-byte number from `at` on.
-fn symbol_at(b: &[u8], at: usize) -> usize
-    requires { at + 2 ≤ length b.now }
-    ensures { result ≡ bytes.number2 (drop at b.now) }
-{
-    b[at] as usize + 256 * (b[at + 1] as usize)
 }
 
 // All nodes of a tree's body, one after the other, on an empty stack.
@@ -241,7 +197,7 @@ fn evaluate(
     b: &[u8],
     stack: &mut [u64],
     starts: &mut [u16],
-) -> Stepped
+) -> Result<Held, Refusal>
     requires evaluable { (A : Automaton) × Evaluable A ranks.now rows.now index.now }
     requires b_len_bound { (length b.now / 2 ≤ 16384) × StackRoom (length b.now / 2) stack.old starts.old }
     ensures { (A : Automaton) → Evaluable A ranks.now rows.now index.now
@@ -250,16 +206,20 @@ fn evaluate(
     let mut held = Held {
         height: 0,
         nodes: 0,
-        first: First::Nowhere,
+        first: None,
     };
-    while held.nodes < b.len() / 2 {
-        let symbol = symbol_at(b, 2 * held.nodes);
-        match step(ranks, rows, index, symbol, stack, starts, held) {
-            Stepped::Refused(cause) => return Stepped::Refused(cause),
-            Stepped::On(next) => held = next,
-        }
+    for symbol in b.chunks_exact(2) {
+        held = step(
+            ranks,
+            rows,
+            index,
+            usize::from(number2(symbol, 0)),
+            stack,
+            starts,
+            held,
+        )?;
     }
-    Stepped::On(held)
+    Ok(held)
 }
 
 // Whether one of the final states is in the stack's lowest entry.
@@ -271,26 +231,22 @@ fn has_final(finals: StateSet, stack: &[u64]) -> bool
 }
 
 // The answer for the tree on the stack, if there is one alone. The subtree to be named is the first that belongs to no state, or the whole tree.
-fn accept_stack(held: Held, finals: StateSet, stack: &[u64]) -> Answer
+fn accept_stack(held: Held, finals: StateSet, stack: &[u64]) -> Result<Answer, Refusal>
     requires { (4 ≤ length stack.now) × (held.height ≤ held.nodes) }
     ensures { (A : Automaton) (starts : List ℕ) → A.states ≤ 256 → A.finals ≡ states_in A.states finals.words
         → Holdable A (walk_in stack.now starts held) → finding_of result ≡ closing A (walk_in stack.now starts held) }
 {
     if held.height != 1 {
-        return Answer::Refused(Refusal::Unbalanced);
+        return Err(Refusal::Unbalanced);
     }
     if has_final(finals, stack) {
-        return Answer::Accepted;
+        return Ok(Answer::Accepted);
     }
-    let nodes = held.nodes;
-    let first = held.first;
-    match first {
-        First::At { node, size } => Answer::Rejected { node, size },
-        First::Nowhere => Answer::Rejected {
-            node: nodes - 1,
-            size: nodes,
-        },
-    }
+    let whole = Subtree {
+        node: held.nodes - 1,
+        size: held.nodes,
+    };
+    Ok(Answer::Rejected(held.first.unwrap_or(whole)))
 }
 
 // The answer for a tree's body, on a stack with room for its nodes.
@@ -302,20 +258,24 @@ fn accept_nodes_on(
     b: &[u8],
     stack: &mut [u64],
     starts: &mut [u16],
-) -> Answer
+) -> Result<Answer, Refusal>
     requires evaluable { (A : Automaton) × Evaluable A ranks.now rows.now index.now }
     requires b_len_bound { (length b.now / 2 ≤ 16384) × StackRoom (length b.now / 2) stack.old starts.old × (4 ≤ length stack.old) }
     ensures { (A : Automaton) → Evaluable A ranks.now rows.now index.now
         → A.finals ≡ states_in A.states finals.words → finding_of result ≡ nodes_finding A (bytes.numbers b.now) }
 {
-    match evaluate(ranks, rows, index, b, stack, starts) {
-        Stepped::Refused(cause) => Answer::Refused(cause),
-        Stepped::On(held) => accept_stack(held, finals, stack),
-    }
+    let held = evaluate(ranks, rows, index, b, stack, starts)?;
+    accept_stack(held, finals, stack)
 }
 
 // The answer for a tree's body; a body of at most 64 nodes gets a small stack, which is cleared sooner.
-fn accept_nodes(finals: StateSet, ranks: &[u8], rows: &[u8], index: &[u16], b: &[u8]) -> Answer
+fn accept_nodes(
+    finals: StateSet,
+    ranks: &[u8],
+    rows: &[u8],
+    index: &[u16],
+    b: &[u8],
+) -> Result<Answer, Refusal>
     requires { ((A : Automaton) × Evaluable A ranks.now rows.now index.now) × (length b.now / 2 ≤ 16384) }
     ensures { (A : Automaton) → Evaluable A ranks.now rows.now index.now
         → A.finals ≡ states_in A.states finals.words → finding_of result ≡ nodes_finding A (bytes.numbers b.now) }
@@ -334,17 +294,10 @@ fn accept_nodes(finals: StateSet, ranks: &[u8], rows: &[u8], index: &[u16], b: &
 fn is_tree(t: &[u8]) -> bool
     ensures { result ≡ is_tree_record (opened t.now) t.now }
 {
-    let o = open(t);
-    let Opened::Record { kind, end } = o else {
+    let Ok(Some(Opened { kind, end })) = open(t) else {
         return false;
     };
-    if kind != 16 {
-        return false;
-    }
-    if end != t.len() {
-        return false;
-    }
-    body(t).len() % 2 == 0
+    kind == u16::from(Kind::Tree) && end == t.len() && body(t).len() % 2 == 0
 }
 
 // Whether a decoded table accepts a tree, and if not, the subtree to be named; or the tree's first cause of refusal. The index is made in a lent
@@ -356,7 +309,7 @@ pub fn accept_tree(
     rows: &[u8],
     index: &mut [u16],
     tree: &[u8],
-) -> Answer
+) -> Result<Answer, Refusal>
     requires symbols_in_bounds { (size.symbols ≤ length ranks.now) × (257 + size.rules ≤ length index.old) }
     requires rows { Rows rows.now size.rules }
     requires well_formed { WellFormed (automaton_in size finals.words ranks.now rows.now) }
@@ -364,11 +317,11 @@ pub fn accept_tree(
         ≡ tree_finding (automaton_in size finals.words ranks.now rows.now) tree.now }
 {
     if !is_tree(tree) {
-        return Answer::Refused(Refusal::NotATree);
+        return Err(Refusal::NotATree);
     }
     let b = body(tree);
     if b.len() / 2 > 16384 {
-        return Answer::Refused(Refusal::TreeAboveLimit);
+        return Err(Refusal::TreeAboveLimit);
     }
     let m = size.symbols;
     index_rules(rows, size.rules, Key::Symbol, m, index);

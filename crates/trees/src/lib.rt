@@ -4,4 +4,4 @@
 mod evaluation;
 
 // Exported for the crates above.
-pub use evaluation::{Answer, accept_tree};
+pub use evaluation::{Answer, Subtree, accept_tree};

@@ -6,8 +6,11 @@ use native.Mathlib.Omega.{arith}
 use mathlib.Core.Path.{◌≡◌, refl, sym, ap, ◌∙◌}
 use mathlib.Core.List.{List, [], ◌∷◌, ◌++◌, append_assoc, append-nil}
 use lib.ListN.{length, take, drop, length-drop}
-use lib.Seq.{take-length, take-append_seam}
+use lib.Seq.{take-append_seam}
+use Rattle.std.specs.Prelude.{Result, Ok, Err}
 use Rattle.lists.specs.Lists.{All, also, from}
+use Rattle.lists.specs.Over.{over}
+use Rattle.lists.proofs.Overwriting.{over_behind}
 use Rattle.lists.proofs.Elements.{all_map, all_at}
 use Rattle.sets.specs.Inner.{set_of}
 use Rattle.sets.proofs.StateSets.{states_of_set}
@@ -15,21 +18,18 @@ use Rattle.records.specs.Refusal.{number_of}
 use Rattle.records.specs.Bytes.{number2, numbers}
 use Rattle.records.specs.Record.{body_of}
 use Rattle.records.specs.Read.{Read, found, refused, ◌>>=◌, map_read}
+use Rattle.records.specs.Answers.{reading_of}
 use Rattle.records.specs.declared.refusal.Refusal.{Refusal}
 use Rattle.records.proofs.Fields.{numbers_step}
-use Rattle.records.proofs.Reading.{refused≢found, found_same, bind_found}
-use Rattle.automaton.specs.declared.table.Judged.TheVariants as judged
+use Rattle.records.proofs.Reading.{found_same, bind_found}
 use Rattle.automaton.specs.Automaton.{Rule, Automaton}
 use Rattle.automaton.specs.Row.{width, rules_in, Rows}
-use Rattle.automaton.specs.Table.{judge_record, judge_finals, rule_in, judge_rule, judge_rules, judge_from_finals}
-use Rattle.automaton.specs.Answers.{judgement_of}
-use Rattle.automaton.specs.Decoded.{size_of, sized, automaton_in, Decodes}
-use Rattle.automaton.specs.Inner.{passing, RuleBody, RowsRoom, Puts}
-use Rattle.automaton.specs.declared.table.Size.{Size}
+use Rattle.automaton.specs.Table.{judge_record, rule_in, judge_rule, judge_rules, judge}
+use Rattle.automaton.specs.Decoded.{sized, automaton_in, Decodes}
+use Rattle.automaton.specs.Inner.{passing, Parts, judge_head, RuleBody, RowsRoom, Puts}
 use Rattle.automaton.specs.declared.decoding.Decoded.{Decoded}
-use Rattle.automaton.proofs.Checked.{record_found, record_within, finals_checked, rule_checked, no_rules_found, rules_count}
-use Rattle.automaton.proofs.Checked.{finals_found}
-use Rattle.automaton.proofs.table.Judging.{passing_map, rule_long, rules_refused, rules_next}
+use Rattle.automaton.proofs.Checked.{record_within, rule_checked, no_rules_found}
+use Rattle.automaton.proofs.table.Judging.{passing_map, rule_long, rules_refused, rules_next, head_found, rest_found, rest_sized}
 use Rattle.automaton.proofs.Rows.{rows_more, rules_more}
 
 -- A rule that was judged, in one row more.
@@ -118,56 +118,45 @@ module _ (n : ℕ) (ranks : List ℕ) (k : ℕ) (t rows₀ : List ℕ) where
           let z = (no_rules_found n ranks rest c.1).1 in
           (rw (← e) r.held, rw (← e) (sym (append-nil (rules_in rows i)) ∙ found_same (rw z at c.2)))
 
--- Room for the rules of a table is room for those after its first record.
-pub room_behind : (t rows : List ℕ) (end : ℕ) → RowsRoom t rows → RowsRoom (drop end t) rows
+-- Room for the rules of a table is room for those of a part of it.
+pub room_behind : (t rest rows : List ℕ) → length rest ≤ length t → RowsRoom t rows → RowsRoom rest rows
 unfolding RowsRoom
-room_behind t rows end room k few h = room k few (omega (arith, length-drop end t))
+room_behind t rest rows behind room k few h = room k few (omega arith)
 
 -- What decoding leaves, where the table is refused and where it is found.
 
-pub refused_decodes : (x : Read Automaton) (r : Decoded) (ranks rows : List ℕ) {cause : Refusal}
-    → r.judged ≡ judged.Refused cause → x ≡ refused (number_of cause) → Decodes x r ranks rows
-unfolding judgement_of sized map_read
-refused_decodes x r ranks rows h e = record {
+pub refused_decodes : (x : Read Automaton) (r : Result Decoded Refusal) (ranks rows : List ℕ) (cause : Refusal)
+    → r ≡ Err cause → x ≡ refused (number_of cause) → Decodes x r ranks rows
+unfolding reading_of sized map_read
+refused_decodes x r ranks rows cause h e = record {
   answer = rw (h, e);
-  holds = λ A f. absurd (refused≢found (sym e ∙ f));
-  rows_hold = λ A f. absurd (refused≢found (sym e ∙ f));
+  holds = λ d f. absurd (apart d (sym h ∙ f));
+  rows_hold = λ d f. absurd (apart d (sym h ∙ f));
 }
+  where
+    apart : (d : Decoded) → Err cause ≡ Ok d → ⊥
+    apart d f = let z : ◌≡◌ {A = ℕ} 0 1 = cc in omega arith
 
-found_decodes : (x : Read Automaton) (r : Decoded) (ranks rows : List ℕ) (A : Automaton) → x ≡ found A
-    → judgement_of r.judged ≡ found (size_of A) → automaton_in (size_of A) r.finals.words ranks rows ≡ A → Rows rows (length A.rules)
-    → Decodes x r ranks rows
-unfolding sized map_read
-found_decodes x r ranks rows A e s h t = record {
-  answer = rw e s;
-  holds = λ B f. let same : A ≡ B = found_same (sym e ∙ f) in rw (← same) h;
-  rows_hold = λ B f. let same : A ≡ B = found_same (sym e ∙ f) in rw (← same) t;
+found_decodes : (x : Read Automaton) (d : Decoded) (ranks rows : List ℕ) → x ≡ found (automaton_in d.size d.finals.words ranks rows)
+    → sized x ≡ found d.size → Rows rows d.size.rules → Decodes x (Ok d) ranks rows
+unfolding reading_of map_read
+found_decodes x d ranks rows h s t = record {
+  answer = sym s;
+  holds = λ e f. let same : d ≡ e = cc in rw (← same) h;
+  rows_hold = λ e f. let same : d ≡ e = cc in rw (← same) t;
 }
-
-pub finals_decode : (size : Size) (ranks b rows : List ℕ) (r : Decoded) {end : ℕ} {us : List Rule}
-    → size.states ≤ 256 → size.symbols ≡ length ranks → judge_record 3 2 (judge_finals size.states) b ≡ found end
-    → judge_rules size.states ranks size.rules (drop end b) ≡ found us → r.judged ≡ judged.Table size
-    → r.finals.words ≡ set_of (numbers (body_of b)) → Rows rows size.rules → rules_in rows size.rules ≡ us
-    → Decodes (judge_from_finals size ranks b) r ranks rows
-unfolding judgement_of automaton_in size_of judge_from_finals ◌>>=◌
-finals_decode size ranks b rows r {end} {us} states symbols h others j finals held rules =
-    let count : length us ≡ size.rules = rules_count size.states ranks size.rules (drop end b) others in
-    let f = finals_checked _ _ (record_found 3 2 _ b h).passes in
-    let A : Automaton = record { states = size.states; ranks = ranks; finals = numbers (body_of b); rules = us } in
-    found_decodes _ r ranks rows A (rw (h, others)) (rw (j, symbols, count))
-    (rw (finals, take-length, count, rules, states_of_set (numbers (body_of b)) size.states states f.states f.rises))
-    (rw count held)
 
 -- The ranks are put in front of what stood in their array.
-pub ranks_decode : (size : Size) (ranks b more rows : List ℕ) (r : Decoded) → Decodes (judge_from_finals size ranks b) r ranks rows
-    → Decodes (judge_from_finals size ranks b) r (ranks ++ more) rows
-unfolding automaton_in size_of
-ranks_decode size ranks b more rows r d = record {
-  answer = d.answer;
-  holds = λ A h.
-      let same : A.ranks ≡ ranks = ap (λ (X : Automaton). X.ranks) (finals_found size ranks b h).table in
-      let seam : take (length A.ranks) (ranks ++ more) ≡ take (length A.ranks) ranks =
-      rw (same, take-append_seam, take-length) in
-      rw seam (d.holds A h);
-  rows_hold = d.rows_hold;
-}
+pub table_decodes : (b : List ℕ) (p : Parts) (us : List Rule) (d : Decoded) (before ranks rows : List ℕ)
+    → judge_head b ≡ found p → judge_rules p.size.states p.ranks p.size.rules p.rules ≡ found us
+    → d.size ≡ p.size → d.finals.words ≡ set_of (numbers p.finals) → ranks ≡ over before 0 p.ranks
+    → Rows rows p.size.rules → rules_in rows p.size.rules ≡ us → Decodes (judge b) (Ok d) ranks rows
+unfolding automaton_in
+table_decodes b p us d before ranks rows h others size finals put held rules =
+    let f = head_found b p h in
+    let front : ranks ≡ p.ranks ++ drop (length p.ranks) before = put ∙ over_behind [] before p.ranks 0 refl in
+    let ranks_held : take p.size.symbols ranks ≡ p.ranks = rw (front, ← f.ranks.count, take-append_seam) in
+    let finals_held = states_of_set (numbers p.finals) p.size.states f.states f.finals.states f.finals.rises in
+    found_decodes (judge b) d ranks rows
+    (rw (size, finals, ranks_held, finals_held, rules) (rest_found b p h others))
+    (rw size (rest_sized b p h others)) (rw size held)

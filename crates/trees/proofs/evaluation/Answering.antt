@@ -1,6 +1,6 @@
 -- The answer for a tree in bytes, from what its nodes leave on the stack; and that a well-formed automaton in arrays is one that evaluation works on.
 -- For `accept_tree` and the functions under it.
-use Prim.Native.Nat.{ℕ, zero, suc, ◌/◌, ◌≤◌, ◌<◌}
+use Prim.Native.Nat.{ℕ, zero, suc, ◌-◌, ◌/◌, ◌≤◌, ◌<◌}
 use native.Mathlib.Omega.{arith}
 use mathlib.Core.Path.{◌≡◌, refl, sym, ap, ◌∙◌}
 use mathlib.Core.List.{List}
@@ -8,6 +8,8 @@ use mathlib.Core.Bool.{Bool, true, false, cond}
 use lib.ListN.{length, take}
 use lib.Seq.{length-take-le}
 use borrow.Author.Tests.{le-leb, lt-leb}
+use Rattle.std.specs.Prelude.{Option, Some, None, Result, Ok, Err}
+use Rattle.std.specs.Option.{unwrap_or}
 use Rattle.lists.specs.Lists.{from, keep, any, among}
 use Rattle.lists.proofs.Booleans.{same_bool}
 use Rattle.lists.proofs.Elements.{all_first, all_member}
@@ -21,7 +23,8 @@ use Rattle.sets.proofs.StateSets.{states_low}
 use Rattle.records.specs.Bytes.{numbers}
 use Rattle.records.specs.Record.{opened, body_of}
 use Rattle.records.specs.Refusal.{number_of}
-use Rattle.records.specs.Read.{Read, found, refused, ◌>>=◌, ◌>>◌, check}
+use Rattle.records.specs.Answers.{reading_of}
+use Rattle.records.specs.Read.{Read, found, refused, map_read, ◌>>=◌, ◌>>◌, check}
 use Rattle.records.specs.declared.refusal.Refusal.{Refusal}
 use Rattle.records.proofs.Fields.{length_numbers}
 use Rattle.records.proofs.Reading.{bind_bind}
@@ -33,12 +36,11 @@ use Rattle.automaton.proofs.Held.{rule_well_formed}
 use Rattle.automaton.proofs.Rows.{length_rules_in}
 use Rattle.indexing.specs.Index.{Indexes}
 use Rattle.trees.specs.Postfix.{single, is_tree_record, judge_tree}
-use Rattle.trees.specs.Subtree.{Finding, accepted, pointed}
+use Rattle.trees.specs.Subtree.{Finding, first_of, accepted, rejected, pointed}
 use Rattle.trees.specs.Walk.{Waiting, start, advance_all, closing}
 use Rattle.trees.specs.Inner.{Evaluable, stack_in, walk_in, stepped_of, Holdable, nodes_finding, tree_finding}
 use Rattle.trees.specs.declared.evaluation.Held.{Held}
-use Rattle.trees.specs.declared.evaluation.Stepped.{Stepped}
-use Rattle.trees.specs.declared.evaluation.Stepped.TheVariants.{On, Refused}
+use Rattle.trees.specs.declared.evaluation.Subtree.{Subtree}
 use Rattle.trees.proofs.Walking.{among_kept, walk_agrees, start_holdable, walked_holdable}
 
 -- States that pass a test which none from n on passes.
@@ -60,7 +62,7 @@ module _ (A : Automaton) (words starts : List ℕ) (held : Held) where
   not_one_refused other = go held.height other
     where
       go : (h : ℕ) → (h ≡ 1 → ⊥) → refused 10 ≡ (single (stack_in words starts h held.nodes)
-          >>= (λ (t : Waiting). found (cond (any (among t.states) A.finals) accepted (pointed held.first held.nodes))))
+          >>= (λ (t : Waiting). found (cond (any (among t.states) A.finals) accepted (pointed (first_of held.first) held.nodes))))
       go zero other = refl
       go (suc zero) other = absurd (other refl)
       go (suc (suc h)) other = refl
@@ -68,7 +70,7 @@ module _ (A : Automaton) (words starts : List ℕ) (held : Held) where
   pub one_answered : (set : List ℕ) → A.states ≤ 256 → A.finals ≡ states_in A.states set → Holdable A (walk_in words starts held)
       → held.height ≡ 1
       → closing A (walk_in words starts held)
-      ≡ found (cond (any (member (entry_at words 0)) (states_in 256 set)) accepted (pointed held.first held.nodes))
+      ≡ found (cond (any (member (entry_at words 0)) (states_in 256 set)) accepted (pointed (first_of held.first) held.nodes))
   unfolding closing walk_in single stack_in states_in ◌>>=◌
   one_answered set few finals holdable one =
       let states = all_first (rw one at holdable.states) in
@@ -82,19 +84,26 @@ module _ (A : Automaton) (words starts : List ℕ) (held : Held) where
       ∙ sym (passing_low (member (entry_at words 0)) (member set) A.states few low)) in
       rw (one, same)
 
+-- The subtree that is named.
+pub named_pointed : (first : Option Subtree) (nodes : ℕ) (t : Subtree) → t ≡ unwrap_or first (record { node = nodes - 1; size = nodes })
+    → rejected t.node t.size ≡ pointed (first_of first) nodes
+unfolding first_of pointed
+named_pointed (Some s) nodes t is = rw is
+named_pointed None nodes t is = rw is
+
 -- The nodes.
-module _ (A : Automaton) (symbols words starts : List ℕ) (answer : Stepped) (s : stepped_of words starts answer ≡ advance_all A start symbols) where
-  pub nodes_refused : (cause : Refusal) → answer ≡ Refused cause → refused (number_of cause) ≡ nodes_finding A symbols
-  unfolding nodes_finding stepped_of ◌>>=◌
+module _ (A : Automaton) (symbols words starts : List ℕ) (answer : Result Held Refusal) (s : stepped_of words starts answer ≡ advance_all A start symbols) where
+  pub nodes_refused : (cause : Refusal) → answer ≡ Err cause → refused (number_of cause) ≡ nodes_finding A symbols
+  unfolding nodes_finding stepped_of reading_of map_read ◌>>=◌
   nodes_refused cause e = rw (← s, e)
 
-  module _ (held : Held) (e : answer ≡ On held) where
+  module _ (held : Held) (e : answer ≡ Ok held) where
     pub nodes_holdable : Holdable A (walk_in words starts held)
-    unfolding stepped_of
+    unfolding stepped_of reading_of map_read
     nodes_holdable = walked_holdable A start symbols (start_holdable A) (sym s ∙ ap (stepped_of words starts) e)
 
     pub nodes_found : (r : Read Finding) → r ≡ closing A (walk_in words starts held) → r ≡ nodes_finding A symbols
-    unfolding nodes_finding stepped_of ◌>>=◌
+    unfolding nodes_finding stepped_of reading_of map_read ◌>>=◌
     nodes_found r is = is ∙ rw (← s, e)
 
 -- The bytes.

@@ -8,6 +8,7 @@ use mathlib.Core.Path.{◌≡◌, refl, sym, ap, ◌∙◌}
 use mathlib.Core.List.{List, [], ◌∷◌, ◌++◌}
 use lib.ListN.{length, take, drop, get_or, length-append, length-take, length-drop, get_or-append, get_or-eq_default}
 use lib.Seq.{get_or_at, get_or-take, get_or-drop, take_all, drop-append_seam, drop-append-le, take-append-le}
+use Rattle.std.specs.Prelude.{Option, Some, None}
 use Rattle.lists.specs.Lists.{All, none, also, among}
 use Rattle.lists.proofs.Elements.{all_map}
 use Rattle.sets.specs.Set.{member}
@@ -19,8 +20,8 @@ use Rattle.automaton.specs.Automaton.{Automaton}
 use Rattle.trees.specs.Walk.{Waiting, Walk, sizes_of}
 use Rattle.trees.specs.Inner.{StackRoom, stack_in, walk_in}
 use Rattle.trees.specs.Holds.{Following, FirstBelow, Holding, SameUpTo, StatesBelow, HoldableWalk}
-use Rattle.trees.specs.declared.evaluation.First.{First}
-use Rattle.trees.specs.declared.evaluation.First.TheVariants.{Nowhere, At}
+use Rattle.trees.specs.Subtree.{First, nowhere, first_at, first_of}
+use Rattle.trees.specs.declared.evaluation.Subtree.{Subtree}
 use Rattle.trees.specs.declared.evaluation.Held.{Held}
 use Rattle.trees.proofs.Walking.{among_kept, kept_below, Invariant}
 use Rattle.trees.proofs.evaluation.Stacks.{length_stack, stack_up_to}
@@ -44,10 +45,25 @@ module _ (words starts : List ℕ) where
   stack_sizes_low zero end c = omega arith
   stack_sizes_low (suc h) end (low, below) = omega (arith, stack_sizes_low h (get_or starts h 0) below)
 
+-- What the code holds for a first node, and the first node back.
+option_of : First → Option Subtree
+option_of nowhere = None
+option_of (first_at i size) = Some (record { node = i; size = size })
+
+first_kept : (first : First) → first_of (option_of first) ≡ first
+unfolding first_of option_of
+first_kept nowhere = refl
+first_kept (first_at i size) = refl
+
+option_kept : (held : Option Subtree) → option_of (first_of held) ≡ held
+unfolding first_of option_of
+option_kept None = refl
+option_kept (Some t) = refl
+
 first_wider : (m n : ℕ) (first : First) → m ≤ n → FirstBelow m first → FirstBelow n first
 unfolding FirstBelow
-first_wider m n Nowhere l b = tt
-first_wider m n (At i size) l (low, few) = (omega arith, omega arith)
+first_wider m n nowhere l b = tt
+first_wider m n (first_at i size) l (low, few) = (omega arith, omega arith)
 
 pub invariant_holdable : (A : Automaton) (w : Walk) → A.states ≤ 256 → w.nodes < 65536 → Invariant A w → HoldableWalk w
 invariant_holdable A w small few h = record {
@@ -173,7 +189,7 @@ holdable_held w h =
     rw sub-zero at (other_start bare ts end) in (
       words,
       starts,
-      record { height = length ts; nodes = end; first = w.first },
+      record { height = length ts; nodes = end; first = option_of w.first },
       record {
         fits = record {
           few = h.few;
@@ -181,8 +197,9 @@ holdable_held w h =
           following = following_same (starts_to end ts) starts (length ts) end same (starts_follow end ts h.sizes);
         };
         bits = (words_bits (bare ∷ ts), λ i. omega (arith, starts_low end (bare ∷ ts) i, h.few));
-        first = h.first;
+        first = rw first_kept h.first;
         holds = rw (
+          first_kept,
           stack_up_to words starts (words_of ts) (starts_to end ts) (length ts) end (λ e l. (other_entry bare ts e l, same e l)),
           stack_held end ts h.sizes h.states,
         );
@@ -228,7 +245,8 @@ module _ {words starts words' starts' : List ℕ} {held : Held} {w : Walk} where
   held_alone {held'} h h' =
       let same = h.holds ∙ sym h'.holds in
       let nodes : held.nodes ≡ held'.nodes = ap (λ (v : Walk). v.nodes) same in
-      let first = ap (λ (v : Walk). v.first) same in
+      let first : held.first ≡ held'.first =
+      sym (option_kept held.first) ∙ ap (λ (v : Walk). option_of v.first) same ∙ option_kept held'.first in
       let height : held.height ≡ held'.height =
       omega (
         arith,

@@ -10,6 +10,7 @@ use lib.ListN.{length, take, drop, get_or}
 use lib.Seq.{take-suc, take_all, drop-drop, length-take-le}
 use lib.Bits.{bit_and}
 use lib.Dec.{eqb}
+use Rattle.std.specs.List.{list_any, range_with_len}
 use Rattle.lists.specs.Lists.{All, also, from, any}
 use Rattle.lists.proofs.Ranges.{member_from}
 use Rattle.lists.proofs.Search.{any_out, any_none, any_append}
@@ -48,6 +49,12 @@ bit_of_member sets e q h = rw (entry_at_lem sets e (q / 64) (omega arith)) (go (
     go zero l = refl
     go (suc zero) l = refl
     go (suc (suc x)) l = absurd (omega arith)
+
+-- A search through the first n numbers, in the library's words and in those of specs/.
+pub any_in_range : (test : ℕ → Bool) (i n : ℕ) → list_any test (range_with_len i n) ≡ any test (from i n)
+unfolding any from
+any_in_range test i zero = refl
+any_in_range test i (suc n) = rw (add-one, any_in_range test (suc i) n)
 
 -- Children in order.
 

@@ -4,25 +4,26 @@ use Prim.Native.Nat.{ℕ, suc, ◌+◌, ◌-◌, ◌*◌, ◌/◌, ◌≤◌, �
 use native.Mathlib.Numerals.{add-one}
 use native.Mathlib.Omega.{arith}
 use mathlib.Core.Path.{◌≡◌, refl, sym, ap, ◌∙◌}
-use mathlib.Core.List.{List, reverse}
-use lib.ListN.{length, take, drop, get_or, set}
+use mathlib.Core.List.{List, [], ◌∷◌, ◌++◌, reverse}
+use lib.ListN.{length, take, drop, get_or, set, length-append}
+use Rattle.std.specs.Prelude.{Result, Ok, Err, Option, None}
 use Rattle.lists.specs.Over.{over}
 use Rattle.lists.specs.Lists.{any}
 use Rattle.sets.specs.Set.{empty_set, same_set}
 use Rattle.sets.specs.Inner.{Has}
 use Rattle.sets.proofs.StateSets.{Bounded}
-use Rattle.records.specs.Read.{found, refused, ◌>>=◌}
+use Rattle.records.specs.Read.{found, refused, map_read, ◌>>=◌}
+use Rattle.records.specs.Answers.{reading_of}
 use Rattle.records.specs.Bytes.{number2, numbers}
 use Rattle.records.specs.declared.refusal.Refusal.{Refusal}
-use Rattle.records.proofs.Fields.{Bytes, numbers_step, numbers_end}
+use Rattle.records.proofs.Fields.{Bytes, numbers_end}
 use Rattle.automaton.specs.Automaton.{Automaton}
 use Rattle.indexing.specs.Index.{numbers_of}
+use Rattle.trees.specs.Subtree.{first_of}
 use Rattle.trees.specs.Walk.{Waiting, Walk, start, sizes_of, noted, onto, joined, advance, advance_all}
 use Rattle.trees.specs.Inner.{Evaluable, rule_gives, stack_in, walk_in, stepped_of, Consecutive, LeavesConsecutive, start_of, Holdable}
 use Rattle.trees.specs.declared.evaluation.Held.{Held}
-use Rattle.trees.specs.declared.evaluation.First.TheVariants.{Nowhere}
-use Rattle.trees.specs.declared.evaluation.Stepped.{Stepped}
-use Rattle.trees.specs.declared.evaluation.Stepped.TheVariants.{On, Refused}
+use Rattle.trees.specs.declared.evaluation.Subtree.{Subtree}
 use Rattle.trees.proofs.Postfix.{rank_unknown, rank_unbalanced, rank_above_limit, rank_found}
 use Rattle.trees.proofs.Walking.{start_holdable, advance_holdable, advance_counts}
 use Rattle.trees.proofs.evaluation.Stacks.{start_low, consecutive_below, length_stack, stack_below, stack_states, stack_sizes}
@@ -72,15 +73,16 @@ module _ {A : Automaton} {ranks rows index : List ℕ} (v : Evaluable A ranks ro
         abbrev node_start : ℕ
         node_start = start_of starts e r held.nodes
 
-        pub advance_node :
-            found (walk_in (over words (4 * e) new) (set starts e node_start) (record {
+        pub advance_node : (first : Option Subtree)
+            → first_of first ≡ noted (first_of held.first) held.nodes (held.nodes + 1 - node_start) (same_set new empty_set)
+            → found (walk_in (over words (4 * e) new) (set starts e node_start) (record {
               height = e + 1;
               nodes = held.nodes + 1;
-              first = noted held.first held.nodes (held.nodes + 1 - node_start) (same_set new empty_set);
+              first = first;
             }))
             ≡ advance A (walk_in words starts held) f
         unfolding advance walk_in onto joined ◌>>=◌
-        advance_node =
+        advance_node first is =
             let tall : height ≡ r + e = omega arith in
             let stack = stack_in words starts (r + e) held.nodes in
             let sizes = stack_sizes words starts r e held.nodes (rw tall at consecutive) in
@@ -96,6 +98,7 @@ module _ {A : Automaton} {ranks rows index : List ℕ} (v : Evaluable A ranks ro
               rank_found ranks height f known enough few,
               taken,
               left,
+              is,
               put_stack starts e node_start place words new (held.nodes + 1) four place4,
               no_states new four bounded,
               add-one,
@@ -110,56 +113,67 @@ holdable_few A words starts held h =
     let tall = length_stack words starts held.height held.nodes in
     (rw tall at h.few, rw tall at h.waiting)
 
-pub consecutive_next : (starts : List ℕ) (answer : Stepped) (next : Held) → answer ≡ On next → LeavesConsecutive starts answer
+pub consecutive_next : (starts : List ℕ) (answer : Result Held Refusal) (next : Held) → answer ≡ Ok next → LeavesConsecutive starts answer
     → Consecutive starts next.height next.nodes
 unfolding LeavesConsecutive
 consecutive_next starts answer next e c = rw e at c
 
--- The nodes of a body from the next one on are still to be walked.
-pub record Walked (A : Automaton) (b words starts : List ℕ) (held : Held) : Type 0 where
+-- The next number in some bytes, two at a time.
+pair_first : (p b : List ℕ) → length p ≡ 2 → numbers (p ++ b) ≡ number2 p ∷ numbers b
+unfolding numbers number2
+pair_first [] b two = absurd (omega arith)
+pair_first (x ∷ []) b two = absurd (omega arith)
+pair_first (x ∷ (y ∷ [])) b two = refl
+pair_first (x ∷ (y ∷ (z ∷ p))) b two = absurd (omega arith)
+
+-- So many nodes were read of a body, and its rest is left: a number more.
+pub number_more : (nodes : ℕ) (b rest p rest' : List ℕ) → 2 * nodes + length rest ≡ length b → length p ≡ 2 → rest ≡ p ++ rest'
+    → (nodes < length b / 2) × (2 * (nodes + 1) + length rest' ≡ length b)
+number_more nodes b rest p rest' left two splits =
+    let long = simp length-append at (ap length splits) in
+    (omega arith, omega arith)
+
+-- The nodes in the rest of a body are still to be walked.
+pub record Walked (A : Automaton) (b rest words starts : List ℕ) (held : Held) : Type 0 where
   pub holdable : Holdable A (walk_in words starts held)
-  pub most : 2 * held.nodes ≤ length b
-  pub left : advance_all A start (numbers b) ≡ advance_all A (walk_in words starts held) (numbers (drop (2 * held.nodes) b))
+  pub left : advance_all A start (numbers b) ≡ advance_all A (walk_in words starts held) (numbers rest)
 
 module _ (A : Automaton) (b : List ℕ) where
-  pub walk_begins : (words starts : List ℕ) → Walked A b words starts (record { height = 0; nodes = 0; first = Nowhere })
-  unfolding walk_in stack_in start
-  walk_begins words starts = record { holdable = start_holdable A; most = omega arith; left = refl }
+  pub walk_begins : (words starts : List ℕ) → Walked A b b words starts (record { height = 0; nodes = 0; first = None })
+  unfolding walk_in stack_in start first_of
+  walk_begins words starts = record { holdable = start_holdable A; left = refl }
 
-  module _ {words starts : List ℕ} {held : Held} (w : Walked A b words starts held) where
+  module _ {rest words starts : List ℕ} {held : Held} (w : Walked A b rest words starts held) where
     pub walked_few : (held.height ≤ held.nodes) × (held.height ≤ 1024)
     walked_few = holdable_few A words starts held w.holdable
 
-    pub walk_ends : length b / 2 ≤ held.nodes → stepped_of words starts (On held) ≡ advance_all A start (numbers b)
-    unfolding advance_all stepped_of
-    walk_ends h = sym (w.left ∙ rw (numbers_end b (2 * held.nodes) (omega arith)))
+    pub walk_ends : length rest < 2 → stepped_of words starts (Ok held) ≡ advance_all A start (numbers b)
+    unfolding advance_all stepped_of reading_of map_read
+    walk_ends h = sym (w.left ∙ rw (numbers_end rest 0 (omega arith)))
 
-    module _ (h : held.nodes < length b / 2) (f : ℕ) (is : f ≡ number2 (drop (2 * held.nodes) b)) (words' starts' : List ℕ)
-        (answer : Stepped) (s : stepped_of words' starts' answer ≡ advance A (walk_in words starts held) f) where
+    module _ (p rest' : List ℕ) (two : length p ≡ 2) (splits : rest ≡ p ++ rest') (f : ℕ) (is : f ≡ number2 p) (words' starts' : List ℕ)
+        (answer : Result Held Refusal) (s : stepped_of words' starts' answer ≡ advance A (walk_in words starts held) f) where
       left_after : advance_all A start (numbers b)
-          ≡ stepped_of words' starts' answer >>= (λ (next : Walk). advance_all A next (numbers (drop (2 * held.nodes + 2) b)))
+          ≡ stepped_of words' starts' answer >>= (λ (next : Walk). advance_all A next (numbers rest'))
       unfolding advance_all
-      left_after = w.left ∙ rw (numbers_step b (2 * held.nodes) (omega arith), ← is, s)
+      left_after = w.left ∙ rw (splits, pair_first p rest' two, ← is, s)
 
-      pub walk_refused : (cause : Refusal) → answer ≡ Refused cause → stepped_of words' starts' (Refused cause) ≡ advance_all A start (numbers b)
-      unfolding stepped_of ◌>>=◌
+      pub walk_refused : (cause : Refusal) → answer ≡ Err cause → stepped_of words' starts' (Err cause) ≡ advance_all A start (numbers b)
+      unfolding stepped_of reading_of map_read ◌>>=◌
       walk_refused cause e = sym (left_after ∙ rw e)
 
-      module _ (next : Held) (e : answer ≡ On next) where
+      module _ (next : Held) (e : answer ≡ Ok next) where
         advanced : advance A (walk_in words starts held) f ≡ found (walk_in words' starts' next)
-        unfolding stepped_of
+        unfolding stepped_of reading_of map_read
         advanced = sym s ∙ ap (stepped_of words' starts') e
 
         pub walk_counts : next.nodes ≡ held.nodes + 1
         unfolding walk_in
         walk_counts = advance_counts A (walk_in words starts held) f advanced
 
-        pub walk_next : Walked A b words' starts' next
-        unfolding stepped_of ◌>>=◌
-        walk_next =
-            let place : 2 * held.nodes + 2 ≡ 2 * next.nodes = omega (arith, walk_counts) in
-            record {
-              holdable = advance_holdable A (walk_in words starts held) f w.holdable advanced;
-              most = omega arith;
-              left = left_after ∙ rw (e, place);
-            }
+        pub walk_next : Walked A b rest' words' starts' next
+        unfolding stepped_of reading_of map_read ◌>>=◌
+        walk_next = record {
+          holdable = advance_holdable A (walk_in words starts held) f w.holdable advanced;
+          left = left_after ∙ rw e;
+        }

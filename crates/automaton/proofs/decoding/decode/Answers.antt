@@ -1,41 +1,55 @@
--- A refusal of the first record, or what is after it decoded.
-use Rattle.std.proofs.Common.{arith, sym}
-use Rattle.lists.proofs.Arrays.{part_to_end}
-use Rattle.records.specs.Read.{◌>>=◌}
-use Rattle.automaton.specs.Table.{judge}
-use Rattle.automaton.specs.Inner.{place_of}
-use Rattle.automaton.proofs.Checked.{record_found, record_within, size_checked}
-use Rattle.automaton.proofs.decoding.Filling.{room_behind, refused_decodes}
+-- The head or the rules are refused, or what they hold is decoded.
+use Rattle.std.proofs.Common.{arith, refl, sym}
+use Rattle.std.proofs.lemmas.Result.{err_from_is_err_and}
+use Rattle.lists.proofs.Elements.{all_map}
+use Rattle.records.specs.Answers.{reading_of}
+use Rattle.records.specs.Read.{map_read}
+use Rattle.records.proofs.Reading.{map_found, map_refused}
+use Rattle.automaton.specs.Inner.{passing, parts_of}
+use Rattle.automaton.proofs.table.Judging.{head_found, head_refused, rest_refused}
+use Rattle.automaton.proofs.decoding.Filling.{room_behind, refused_decodes, table_decodes}
 use Rattle.automaton.proofs.decoding.decode.Goals as goal
 
-pub slice_bounds-decode_from_ranks-count : goal.slice_bounds-decode_from_ranks-count
-unfolding place_of
-slice_bounds-decode_from_ranks-count c = record_within 1 2 _ _ (sym c.in-At.ensures)
+pub returns-in_err-head : goal.returns-in_err-head
+unfolding reading_of map_read
+returns-in_err-head c =
+    let p = err_from_is_err_and c.from_residual.result c.from_residual.ensures.1 in
+    refused_decodes _ _ _ _ p.0 p.1 (rw p.2 (head_refused c.args.t.now (sym c.in_err-head.ensures)))
 
-pub slice_bounds-decode_from_ranks-start : goal.slice_bounds-decode_from_ranks-start
-unfolding place_of
-slice_bounds-decode_from_ranks-start c = record_within 1 2 _ _ (sym c.in-At.ensures)
+pub put_bytes-requires : goal.put_bytes-requires
+unfolding reading_of parts_of map_read
+put_bytes-requires c =
+    let head = head_found c.args.t.now (parts_of c.in_ok-head.head) (sym c.in_ok-head.ensures) in
+    omega (arith, head.ranks.count, head.symbols, c.requires.0)
 
-pub size_in-requires : goal.size_in-requires
-unfolding place_of
-size_in-requires c =
-    rw c.body.ensures (omega (arith, (size_checked _ (record_found 1 2 _ _ (sym c.in-At.ensures)).passes).size))
-
-pub decode_from_ranks-requires : goal.decode_from_ranks-requires
-unfolding place_of
-decode_from_ranks-requires c =
-    let f = size_checked _ (record_found 1 2 _ _ (sym c.in-At.ensures)).passes in
+pub decode_rules-requires : goal.decode_rules-requires
+unfolding reading_of parts_of map_read
+decode_rules-requires c =
+    let head = head_found c.args.t.now (parts_of c.in_ok-head.head) (sym c.in_ok-head.ensures) in
     record {
-      states_bound = rw (c.size_in.ensures, c.body.ensures) (f.states, (f.symbols, f.count));
-      in_bounds = (c.requires.0, rw part_to_end (room_behind _ _ c.in-At.end c.requires.1));
+      n_bound = (head.states, head.count);
+      ranks_len_bound = (omega (arith, head.ranks.count, head.symbols), head.ranks.small);
+      rows_room = room_behind _ _ _ head.behind c.requires.1;
     }
 
-pub returns-in-Refused : goal.returns-in-Refused
-unfolding place_of judge ◌>>=◌
-returns-in-Refused c = refused_decodes _ c.refused.result _ _ c.refused.ensures (rw (sym c.in-Refused.ensures))
+pub returns-in_err-decode_rules : goal.returns-in_err-decode_rules
+unfolding reading_of passing parts_of map_read
+returns-in_err-decode_rules c =
+    let p = err_from_is_err_and c.from_residual-in_err-decode_rules.result c.from_residual-in_err-decode_rules.ensures.1 in
+    let rules = map_refused _ _ (sym c.in_err-decode_rules.ensures.result_value) in
+    refused_decodes _ _ _ _ p.0 p.1
+    (rw p.2 (rest_refused c.args.t.now (parts_of c.in_ok-head.head) (sym c.in_ok-head.ensures) rules))
 
-pub returns-in-At : goal.returns-in-At
-unfolding place_of judge ◌>>=◌
-returns-in-At c =
-    rw (sym c.in-At.ensures)
-    (rw (part_to_end, c.size_in.ensures, c.body.ensures) at c.decode_from_ranks.ensures)
+pub set_of-requires : goal.set_of-requires
+unfolding reading_of parts_of map_read
+set_of-requires c =
+    let head = head_found c.args.t.now (parts_of c.in_ok-head.head) (sym c.in_ok-head.ensures) in
+    all_map (λ q l. omega (arith, head.states)) head.finals.states
+
+pub returns : goal.returns
+unfolding reading_of passing parts_of map_read
+returns c =
+    let (us, rules, u) = map_found _ _ (sym c.in_ok-decode_rules.ensures.result_value) in
+    let rows = c.decode_rules.ensures.rows us rules in
+    table_decodes c.args.t.now (parts_of c.in_ok-head.head) us _ _ _ _ (sym c.in_ok-head.ensures) rules refl c.set_of.ensures
+    c.put_bytes.ensures rows.0 rows.1

@@ -1,8 +1,10 @@
 use Rattle.std.proofs.Common.{◌∙◌, sym}
+use Rattle.std.proofs.lemmas.Result.{err_from_is_err_and}
 use Rattle.lists.proofs.Arrays.{part_to_end}
+use Rattle.records.specs.Answers.{reading_of}
 use Rattle.records.specs.Read.{map_read}
 use Rattle.records.proofs.Reading.{refused≢found}
-use Rattle.automaton.specs.Inner.{passing, place_of, verdict_of}
+use Rattle.automaton.specs.Inner.{passing}
 use Rattle.automaton.proofs.Checked.{record_found, record_within}
 use Rattle.automaton.proofs.decoding.Filling.{rule_body, none_reached, reached_refused, next_room, next_reached}
 use Rattle.automaton.proofs.decoding.Filling.{end_reached, all_reached}
@@ -11,16 +13,17 @@ use Rattle.automaton.proofs.decoding.decode_rules.Goals as goal
 pub loop-i-init : goal.loop-i-init
 loop-i-init c = none_reached _ _ _ _ _
 
-pub returns-in-Refused : goal.returns-in-Refused
-unfolding place_of verdict_of passing map_read
-returns-in-Refused c =
-    let stop = reached_refused _ _ _ _ _ _ _ _ c.loop-i.invariant c.loop-i-test.true (sym c.in-Refused.ensures) in
-    record { result_value = rw stop; rows = λ us h. absurd (refused≢found (sym stop ∙ h)) }
+pub returns-in_err-end : goal.returns-in_err-end
+unfolding reading_of passing map_read
+returns-in_err-end c =
+    let p = err_from_is_err_and c.from_residual.result c.from_residual.ensures.1 in
+    let stop = reached_refused _ _ _ _ _ _ _ _ c.loop-i.invariant c.loop-i-test.true (sym c.in_err-end.ensures) in
+    record { result_value = rw (p.1, p.2, stop); rows = λ us h. absurd (refused≢found (sym stop ∙ h)) }
 
 pub put_row-requires : goal.put_row-requires
-unfolding place_of
+unfolding reading_of
 put_row-requires c =
-    let next = sym c.in-At.ensures in
+    let next = sym c.in_ok-end.ensures in
     let r = c.requires in
     record {
       rule_body =
@@ -30,18 +33,19 @@ put_row-requires c =
     }
 
 pub slice_bounds-rest-count : goal.slice_bounds-rest-count
-unfolding place_of
-slice_bounds-rest-count c = record_within 4 7 _ _ (sym c.in-At.ensures)
+unfolding reading_of
+slice_bounds-rest-count c = record_within 4 7 _ _ (sym c.in_ok-end.ensures)
 
 pub slice_bounds-rest-start : goal.slice_bounds-rest-start
-unfolding place_of
-slice_bounds-rest-start c = record_within 4 7 _ _ (sym c.in-At.ensures)
+unfolding reading_of
+slice_bounds-rest-start c = record_within 4 7 _ _ (sym c.in_ok-end.ensures)
 
 pub loop-i-preserved : goal.loop-i-preserved
-unfolding place_of
+unfolding reading_of
 loop-i-preserved c =
+    let next = sym c.in_ok-end.ensures in
     rw part_to_end
-    (next_reached _ _ _ _ _ _ _ _ c.loop-i.invariant c.loop-i-test.true c.requires.n_bound.1 (sym c.in-At.ensures) _
+    (next_reached _ _ _ _ _ _ _ _ c.loop-i.invariant c.loop-i-test.true c.requires.n_bound.1 next _
     (rw c.body.ensures at c.put_row.ensures))
 
 pub returns : goal.returns

@@ -1,10 +1,6 @@
 -- Each turn takes one rule more into its row.
-use Rattle.std.proofs.Common.{◌-◌}
 use Rattle.automaton.proofs.decoding.Filling.{Reached}
 use Rattle.automaton.proofs.decoding.decode_rules.Given as goal
 
 abbrev pub invariant-loop-i : goal.invariant-loop-i
 invariant-loop-i l = Reached l.n l.ranks l.k l.t l.initial.rows l.rows l.rest l.i
-
-abbrev pub decreases-loop-i : goal.decreases-loop-i
-decreases-loop-i l = l.k - l.i

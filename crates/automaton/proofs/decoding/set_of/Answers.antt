@@ -1,25 +1,28 @@
-use Rattle.std.proofs.Common.{◌∙◌, arith, rules, sym}
+use Rattle.std.proofs.Common.{◌∙◌, arith, refl, sym}
 use Rattle.lists.proofs.Elements.{all_first, all_rest}
 use Rattle.sets.specs.Inner.{with_all, set_of}
-use Rattle.records.proofs.Fields.{numbers_step, numbers_end}
+use Rattle.automaton.proofs.Chunks.{next_number, no_number}
 use Rattle.automaton.proofs.decoding.set_of.Goals as goal
 
-pub loop-i-init : goal.loop-i-init
+pub loop-q-init : goal.loop-q-init
 unfolding set_of
-loop-i-init c = (search rules, c.requires, rw c.empty-set.ensures)
+loop-q-init c =
+    let items = c.chunks_exact-q-items.ensures in
+    rw (c.into_iter-q-iterator.ensures.into_iter_gives, items.rest, items.size, c.empty-set.ensures) (refl, c.requires, refl)
 
 pub overflow_cast-number2 : goal.overflow_cast-number2
-overflow_cast-number2 c = omega (arith, c.number2.ensures, all_first (rw (numbers_step _ _ c.loop-i-test.true) at c.loop-i.invariant.1))
+overflow_cast-number2 c =
+    let next = next_number c.loop-q.q-iterator c.next.new.self c.loop-q.invariant.0 c.in-Some.q c.in-Some.ensures.steps in
+    omega (arith, c.number2.ensures, all_first (rw next.1 at c.loop-q.invariant.1))
 
-pub loop-i-preserved : goal.loop-i-preserved
+pub loop-q-preserved : goal.loop-q-preserved
 unfolding with_all
-loop-i-preserved c = (
-  search rules,
-  all_rest (rw (numbers_step _ _ c.loop-i-test.true) at c.loop-i.invariant.1),
-  rw (c.with-set.ensures, c.number2.ensures)
-      (c.loop-i.invariant.2 ∙ rw (numbers_step _ _ c.loop-i-test.true)),
-)
+loop-q-preserved c =
+    let next = next_number c.loop-q.q-iterator c.next.new.self c.loop-q.invariant.0 c.in-Some.q c.in-Some.ensures.steps in
+    (next.0, all_rest (rw next.1 at c.loop-q.invariant.1), rw (c.with-set.ensures, c.number2.ensures) (c.loop-q.invariant.2 ∙ rw next.1))
 
 pub returns : goal.returns
 unfolding with_all
-returns c = sym (c.loop-i.invariant.2 ∙ rw (numbers_end _ _ c.loop-i-test.false))
+returns c =
+    let rest = no_number c.loop-q.q-iterator c.next.new.self c.loop-q.invariant.0 c.in-None.ensures.steps in
+    sym (c.loop-q.invariant.2 ∙ rw rest)

@@ -25,6 +25,6 @@ returns c =
     let body = c.requires.rule_body in
     let rank = body_rank b body in
     stored_puts
-    (stored_both (head_stored b c.args.rows.now (width * c.args.i) body c.requires.width_in_bounds) c.loop-j.invariant.1
+    (stored_both (head_stored b c.args.rows.now (width * c.args.i) body c.requires.width_in_bounds) c.loop-j.invariant
     (λ k h. body_child b body k (omega arith) ∙ sym (child_byte (rule_in b) k)))
     (rule_in b) c.requires.width_in_bounds (omega arith) (omega arith) (λ k h. refl)

@@ -24,7 +24,7 @@ returns c =
     let row = c.requires.0 in
     let rank = renamed_rank row name in
     stored_puts
-    (stored_both (head_stored rows i name row) c.loop-j.invariant.1
+    (stored_both (head_stored rows i name row) c.loop-j.invariant
     (λ k h. ap name (get_or-set_other rows (width * i + 1) (width * i + 3 + k) _ 0 (omega arith))
     ∙ sym (child_byte u k ∙ renamed_child row name k (omega arith))))
     u row.room (omega arith) (omega arith) (λ k h. refl)

@@ -1,13 +1,9 @@
 -- The symbol and the number of children stay; the target and, turn by turn, the children get their new names.
-use Rattle.std.proofs.Common.{ℕ, ◌+◌, ◌-◌, ◌*◌, ◌≤◌, get_or}
+use Rattle.std.proofs.Common.{ℕ, ◌+◌, ◌*◌, get_or}
 use Rattle.automaton.specs.Row.{width}
 use Rattle.automaton.proofs.row.Storing.{Stored}
 use Rattle.automaton.proofs.row.rename_row.Given as goal
 
 abbrev pub invariant-loop-j : goal.invariant-loop-j
 invariant-loop-j l =
-    (l.j ≤ l.rank)
-    × Stored l.initial.rows (width * l.i + 3) (λ (c : ℕ). get_or l.names (get_or l.initial.rows (width * l.i + 3 + c) 0) 0) l.j l.rows
-
-abbrev pub decreases-loop-j : goal.decreases-loop-j
-decreases-loop-j l = l.rank - l.j
+    Stored l.initial.rows (width * l.i + 3) (λ (c : ℕ). get_or l.names (get_or l.initial.rows (width * l.i + 3 + c) 0) 0) l.j l.rows

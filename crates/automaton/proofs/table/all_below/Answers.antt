@@ -1,26 +1,13 @@
-use Rattle.std.proofs.Common.{arith, rules, sym, drop, ◌∙◌}
-use borrow.Author.Tests.{lt-ltb, le-ltb}
-use Rattle.lists.specs.Lists.{all}
-use Rattle.records.specs.Bytes.{number2}
-use Rattle.records.proofs.Fields.{numbers_step, numbers_end}
+-- The chain tests each number.
+use Rattle.std.proofs.Common.{◌∙◌, rules, ltb}
+use borrow.Author.Tests.{tests}
+use Rattle.std.proofs.lemmas.Iterator.Search.{all_from_yields_List}
+use Rattle.records.specs.Bytes.{numbers}
+use Rattle.automaton.proofs.Chunks.{all_same, numbers_yielded}
 use Rattle.automaton.proofs.table.all_below.Goals as goal
 
-pub returns-then-number2-n : goal.returns-then-number2-n
-unfolding all
-returns-then-number2-n c =
-    let b = c.args.b.now in
-    let i = c.loop-i.i in
-    sym (c.loop-i.invariant.1 ∙ rw (numbers_step b i (search rules), le-ltb (number2 (drop i b)) c.args.n (omega arith)))
-
-pub loop-i-preserved : goal.loop-i-preserved
-unfolding all
-loop-i-preserved c =
-    let b = c.args.b.now in
-    let i = c.loop-i.i in (
-      search rules,
-      c.loop-i.invariant.1 ∙ rw (numbers_step b i (search rules), lt-ltb (number2 (drop i b)) c.args.n (omega arith)),
-    )
-
 pub returns : goal.returns
-unfolding all
-returns c = sym (c.loop-i.invariant.1 ∙ rw (numbers_end c.args.b.now c.loop-i.i (search rules)))
+returns c =
+    all_from_yields_List (λ q. ltb q c.args.n) _ _ c.all.result c.all.ensures.ran
+    (numbers_yielded c.args.b.now c.chunks_exact.ensures.rest c.chunks_exact.ensures.size) (λ x b q k. search (rules, tests))
+    ∙ all_same _ (numbers c.args.b.now)

@@ -1,41 +1,29 @@
--- The first record is refused, or what is after it decides on the counts in it.
-use Rattle.std.proofs.Common.{arith, sym}
-use Rattle.lists.proofs.Arrays.{part_to_end}
-use Rattle.records.specs.Read.{◌>>=◌, map_read}
-use Rattle.records.proofs.Reading.{map_refused}
-use Rattle.automaton.specs.Table.{judge_from_ranks, judge}
+-- The head is refused, or the rules behind it decide.
+use Rattle.std.proofs.Common.{sym}
+use Rattle.std.proofs.lemmas.Result.{err_from_is_err_and}
+use Rattle.records.specs.Answers.{reading_of}
+use Rattle.records.specs.Read.{map_read}
+use Rattle.records.proofs.Reading.{map_found, map_refused}
 use Rattle.automaton.specs.Decoded.{sized}
-use Rattle.automaton.specs.Answers.{judgement_of}
-use Rattle.automaton.specs.Inner.{passing, place_of, verdict_of}
-use Rattle.automaton.proofs.Checked.{record_found, record_within, size_checked}
-use Rattle.automaton.proofs.table.Judging.{sized_passes}
+use Rattle.automaton.specs.Inner.{passing, parts_of}
+use Rattle.automaton.proofs.table.Judging.{head_refused, rest_refused, rest_sized}
 use Rattle.automaton.proofs.table.judge.Goals as goal
 
-pub returns-in-Refused : goal.returns-in-Refused
-unfolding place_of judgement_of sized map_read judge ◌>>=◌
-returns-in-Refused c = rw (← c.in-Refused.ensures)
+pub returns-in_err-head : goal.returns-in_err-head
+unfolding reading_of sized map_read
+returns-in_err-head c =
+    let p = err_from_is_err_and c.from_residual.result c.from_residual.ensures.1 in
+    rw (p.1, p.2, head_refused c.args.t.now (sym c.in_err-head.ensures))
 
-pub size_in-size-requires : goal.size_in-size-requires
-unfolding place_of
-size_in-size-requires c =
-    rw c.body.ensures (omega (arith, (size_checked _ (record_found 1 2 _ _ (sym c.in-At.ensures)).passes).size))
+pub returns-in_err-judge_rules : goal.returns-in_err-judge_rules
+unfolding reading_of sized passing parts_of map_read
+returns-in_err-judge_rules c =
+    let p = err_from_is_err_and c.from_residual-in_err-judge_rules.result c.from_residual-in_err-judge_rules.ensures.1 in
+    let rules = map_refused _ _ (sym c.in_err-judge_rules.ensures) in
+    rw (p.1, p.2, rest_refused c.args.t.now (parts_of c.in_ok-head.head) (sym c.in_ok-head.ensures) rules)
 
-pub slice_bounds-judge_from_ranks-count : goal.slice_bounds-judge_from_ranks-count
-unfolding place_of
-slice_bounds-judge_from_ranks-count c = record_within 1 2 _ _ (sym c.in-At.ensures)
-
-pub slice_bounds-judge_from_ranks-start : goal.slice_bounds-judge_from_ranks-start
-unfolding place_of
-slice_bounds-judge_from_ranks-start c = record_within 1 2 _ _ (sym c.in-At.ensures)
-
-pub returns-in-Refused-judge_from_ranks : goal.returns-in-Refused-judge_from_ranks
-unfolding place_of judgement_of verdict_of passing sized map_read judge ◌>>=◌
-returns-in-Refused-judge_from_ranks c =
-    let ranks = rw (part_to_end, c.size_in-size.ensures, c.body.ensures) at c.in-Refused-judge_from_ranks.ensures in
-    rw (← c.in-At.ensures, map_refused _ (judge_from_ranks _ _) (sym ranks))
-
-pub returns-in-Passed : goal.returns-in-Passed
-unfolding place_of judgement_of verdict_of judge ◌>>=◌
-returns-in-Passed c =
-    let ranks = rw (part_to_end, c.size_in-size.ensures, c.body.ensures) at c.in-Passed.ensures in
-    rw (← c.in-At.ensures, c.size_in-size.ensures, c.body.ensures) (sym (sized_passes _ _ (sym ranks)))
+pub returns : goal.returns
+unfolding reading_of passing parts_of map_read
+returns c =
+    let (rules, found, u) = map_found _ _ (sym c.in_ok-judge_rules.ensures) in
+    sym (rest_sized c.args.t.now (parts_of c.in_ok-head.head) (sym c.in_ok-head.ensures) found)

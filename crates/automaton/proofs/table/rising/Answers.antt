@@ -1,33 +1,44 @@
-use Rattle.std.proofs.Common.{arith, rules, sym, ap, drop, ◌∙◌}
-use borrow.Author.Tests.{lt-ltb, le-ltb}
+-- The next number is above the one before it, or the answer is no.
+use Rattle.std.proofs.Common.{◌≡◌, ◌∙◌, ◌∷◌, ℕ, Bool, true, false, leb, List, Option, Some, None, MatchOption, rules, sym, refl, []}
+use mathlib.Core.Bool.{false≢true}
+use borrow.Author.Tests.{tests, lt-ltb, le-ltb, leb-true, leb-false}
+use Rattle.std.specs.List.{cons_option}
 use Rattle.lists.specs.Lists.{rising}
-use Rattle.records.specs.Bytes.{number2}
-use Rattle.records.proofs.Fields.{numbers_step, numbers_end}
+use Rattle.automaton.proofs.Chunks.{next_number, no_number}
 use Rattle.automaton.proofs.table.rising.Goals as goal
 
-pub returns-then-b-lt2 : goal.returns-then-b-lt2
-unfolding rising
-returns-then-b-lt2 c = rw (numbers_end c.args.b.now 0 (omega arith))
+-- Whether the next number is not above the last one.
+abbrev Stops : Option ℕ → ℕ → Bool → Type 0
+Stops last q stop = MatchOption last (stop ≡ false) (λ (p : ℕ). stop ≡ leb q p)
 
-pub loop-i-init : goal.loop-i-init
-loop-i-init c = (search rules, rw c.number2-last.ensures (ap rising (numbers_step _ 0 (search rules))))
-
-pub returns-then-q-last : goal.returns-then-q-last
+stopped : (last : Option ℕ) (q : ℕ) (qs : List ℕ) → Stops last q true → rising (cons_option last (q ∷ qs)) ≡ false
 unfolding rising
-returns-then-q-last c =
-    let b = c.args.b.now in
-    let i = c.loop-i.i in
-    let more = le-ltb c.loop-i.last (number2 (drop i b)) (omega arith) in
-    sym (c.loop-i.invariant.1 ∙ rw (numbers_step b i (search rules), more))
+stopped None q qs h = absurd (false≢true (sym h))
+stopped (Some p) q qs h = rw (le-ltb p q (leb-true q p (sym h)))
 
-pub loop-i-preserved : goal.loop-i-preserved
+went_on : (last : Option ℕ) (q : ℕ) (qs : List ℕ) → Stops last q false → rising (cons_option last (q ∷ qs)) ≡ rising (q ∷ qs)
 unfolding rising
-loop-i-preserved c =
-    let b = c.args.b.now in
-    let i = c.loop-i.i in
-    let more = lt-ltb c.loop-i.last (number2 (drop i b)) (omega arith) in
-    (search rules, rw c.number2-q.ensures (c.loop-i.invariant.1 ∙ rw (numbers_step b i (search rules), more)))
+went_on None q qs h = refl
+went_on (Some p) q qs h = rw (lt-ltb p q (leb-false q p (sym h)))
+
+pub returns-then-is_some_and : goal.returns-then-is_some_and
+returns-then-is_some_and c =
+    let stops : Stops c.loop-q.last c.number2-q.result c.is_some_and.result = search (rules, tests) in
+    let next = next_number c.loop-q.q-iterator c.next.new.self c.loop-q.invariant.0 c.in-Some.q c.in-Some.ensures.steps in
+    sym (c.loop-q.invariant.1 ∙ rw (next.1, ← c.number2-q.ensures) (stopped _ _ _ (rw c.if-is_some_and.true at stops)))
+
+pub loop-q-preserved : goal.loop-q-preserved
+loop-q-preserved c =
+    let stops : Stops c.loop-q.last c.number2-q.result c.is_some_and.result = search (rules, tests) in
+    let next = next_number c.loop-q.q-iterator c.next.new.self c.loop-q.invariant.0 c.in-Some.q c.in-Some.ensures.steps in
+    (next.0, c.loop-q.invariant.1 ∙ rw (next.1, ← c.number2-q.ensures) (went_on _ _ _ (rw c.if-is_some_and.false at stops)))
 
 pub returns : goal.returns
 unfolding rising
-returns c = sym (c.loop-i.invariant.1 ∙ rw (numbers_end c.args.b.now c.loop-i.i (search rules)))
+returns c =
+    let rest = no_number c.loop-q.q-iterator c.next.new.self c.loop-q.invariant.0 c.in-None.ensures.steps in
+    sym (c.loop-q.invariant.1 ∙ rw rest (last_rises c.loop-q.last))
+  where
+    last_rises : (last : Option ℕ) → rising (cons_option last []) ≡ true
+    last_rises None = refl
+    last_rises (Some p) = refl

@@ -1,11 +1,7 @@
 -- The loop's run grows by a rule a turn.
-use Rattle.std.proofs.Common.{◌-◌}
 use Rattle.lists.proofs.Overwriting.{Writing}
 use Rattle.automaton.proofs.writing.Parts.{rules}
 use Rattle.automaton.proofs.writing.put_rules.Given as goal
 
 abbrev pub invariant-loop-i : goal.invariant-loop-i
 invariant-loop-i l = Writing (rules l.rows) l.initial.out l.at l.k l.out l.next l.i
-
-abbrev pub decreases-loop-i : goal.decreases-loop-i
-decreases-loop-i l = l.k - l.i

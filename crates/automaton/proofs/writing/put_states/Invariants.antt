@@ -1,5 +1,4 @@
 -- The loop's run grows by a state or nothing a turn.
-use Rattle.std.proofs.Common.{◌-◌}
 use Rattle.lists.proofs.Overwriting.{Writing}
 use Rattle.sets.specs.Set.{member}
 use Rattle.automaton.proofs.writing.Parts.{states}
@@ -7,6 +6,3 @@ use Rattle.automaton.proofs.writing.put_states.Given as goal
 
 abbrev pub invariant-loop-q : goal.invariant-loop-q
 invariant-loop-q l = Writing (states (member l.set.words)) l.initial.out l.at l.n l.out l.next l.q
-
-abbrev pub decreases-loop-q : goal.decreases-loop-q
-decreases-loop-q l = l.n - l.q

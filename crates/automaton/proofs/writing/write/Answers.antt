@@ -4,7 +4,7 @@ use Rattle.lists.proofs.Overwriting.{kept_few}
 use Rattle.sets.specs.Set.{member}
 use Rattle.records.specs.Read.{found}
 use Rattle.records.proofs.Buffers.{room_enough, room_short}
-use Rattle.automaton.specs.Answers.{writing_of}
+use Rattle.records.specs.Answers.{reading_of}
 use Rattle.automaton.specs.Table.{encode}
 use Rattle.automaton.specs.Decoded.{automaton_in}
 use Rattle.automaton.proofs.Held.{few_states, few_symbols}
@@ -38,7 +38,7 @@ overflow_add-length-3 c =
     )
 
 pub returns-then-out-length : goal.returns-then-out-length
-unfolding writing_of
+unfolding reading_of
 returns-then-out-length c =
     let size = c.args.size in
     let finals = c.args.finals.words in
@@ -62,7 +62,7 @@ pub put_finals-requires-clause-n_bound : goal.put_finals-requires-clause-n_bound
 put_finals-requires-clause-n_bound c = few_states _ _ _ _ c.requires.well_formed
 
 pub returns : goal.returns
-unfolding writing_of
+unfolding reading_of
 returns c =
     let size = c.args.size in
     let finals = c.args.finals.words in

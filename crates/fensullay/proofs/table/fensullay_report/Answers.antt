@@ -1,5 +1,6 @@
 -- `fensullay::table::fensullay_report` meets its contract: the report stands at the start of its array, and is copied whole where it has room.
 use Rattle.std.proofs.Common.{◌≡◌, ◌≤◌, ◌<◌, ◌∙◌, List, ◌∷◌, ◌++◌, ℕ, length, take, drop, refl, sym, ap, arith}
+use Rattle.std.proofs.lemmas.Bool.Decides.{nat_tests}
 use lib.Seq.{take_at}
 use Rattle.lists.specs.Over.{over}
 use Rattle.records.specs.Read.{found}
@@ -25,20 +26,22 @@ module _ (input out numbers : List ℕ) (room : 1 ≤ length numbers) where
       let taken : take end lines ≡ report input = rw is (take_at (report input) rest end (sym e)) in
       found_with _ _ _ _ _ _ room (ap found e ∙ sym fits.0) numbered (put ∙ ap (over out 0) taken ∙ sym fits.1)
 
-pub returns-then-numbers-lt1 : goal.returns-then-numbers-lt1
+pub returns-then-is_empty : goal.returns-then-is_empty
 unfolding reporting
-returns-then-numbers-lt1 c =
-    let e = too_few _ _ _ _ _ _ c.if-numbers-lt1.true in
+returns-then-is_empty c =
+    let e = too_few _ _ _ _ _ _ (grind (arith, nat_tests)) in
     record { value = e.0; numbers_after = e.1.0; out_after = e.1.1 }
 
 pub returns-then-out-end : goal.returns-then-out-end
 returns-then-out-end c =
-    let e = reported_short _ _ _ c.if-numbers-lt1.false c.report-end.ensures.value c.if-out-end.true in
-    record { value = e.0; numbers_after = e.1.0; out_after = e.1.1 }
+    let e =
+    reported_short c.args.input.now c.args.out.now c.args.numbers.now (grind (arith, nat_tests)) c.report-end.ensures.value
+    c.if-out-end.true in
+    record { value = cc e.0; numbers_after = e.1.0; out_after = e.1.1 }
 
 pub returns : goal.returns
 returns c =
     let e =
-    reported_in _ _ _ c.if-numbers-lt1.false _ _ _ _ _ c.report-end.ensures.value c.if-out-end.false c.report-end.ensures.out_after
+    reported_in _ _ _ (grind (arith, nat_tests)) _ _ _ _ _ c.report-end.ensures.value c.if-out-end.false c.report-end.ensures.out_after
     c.put_bytes.ensures c.put_all.ensures in
     record { value = e.0; numbers_after = e.1.0; out_after = e.1.1 }

@@ -1,7 +1,9 @@
--- A short input is its own start.
-use Rattle.std.proofs.Common.{arith, sym}
-use lib.Seq.{take_all}
+-- All of a short input, and the start of a long one.
+use Rattle.std.proofs.Common.{arith, ◌≡◌, min, length}
+use Rattle.std.proofs.lemmas.List.{take_min}
 use Rattle.reporting.proofs.lines.first.Goals as goal
 
-pub returns-then-input-lt27417 : goal.returns-then-input-lt27417
-returns-then-input-lt27417 c = sym (take_all 27417 c.args.input.now (omega arith))
+pub returns : goal.returns
+returns c =
+    let e : c.min.result ≡ min 27417 (length c.args.input.now) = omega (arith, c.min.ensures) in
+    rw e (take_min 27417 c.args.input.now)

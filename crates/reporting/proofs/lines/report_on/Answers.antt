@@ -7,41 +7,37 @@ use Rattle.reporting.specs.Report.{refused_word}
 use Rattle.reporting.proofs.Reporting.{refusal_few, report_refused, counts_few, report_found}
 use Rattle.reporting.proofs.lines.report_on.Goals as goal
 
-pub decode-decoded-requires : goal.decode-decoded-requires
+pub decode-requires : goal.decode-requires
 unfolding RowsRoom
-decode-decoded-requires c = search rules
+decode-requires c = search rules
 
 -- The table is refused.
 
 pub put_line-requires-clause-all : goal.put_line-requires-clause-all
 put_line-requires-clause-all c =
-    also {x = c.number.result} (omega (arith, c.number.ensures, refusal_few c.in-Refused.cause)) none
+    also {x = c.from.result} (omega (arith, c.from.ensures, refusal_few c.in-Err.cause)) none
 
-pub returns-in-Refused : goal.returns-in-Refused
+pub returns-in-Err : goal.returns-in-Err
 unfolding refused_word
-returns-in-Refused c =
-    report_refused _ c.in-Refused.cause
-    (refused_judged _ c.decode-decoded.result _ _ _ c.decode-decoded.ensures c.in-Refused.is) _ _ _ _
-    c.number.ensures c.put_line.ensures
+returns-in-Err c =
+    report_refused _ c.in-Err.cause
+    (refused_judged _ c.decode.result _ _ _ c.decode.ensures c.in-Err.is) _ _ _ _
+    c.from.ensures c.put_line.ensures
 
 -- The table is not refused.
 
-pub reduce_rows-short-requires-clause-rows : goal.reduce_rows-short-requires-clause-rows
-reduce_rows-short-requires-clause-rows c =
-    (decoded_held _ c.decode-decoded.result _ _ _ c.decode-decoded.ensures c.in-Table.is).rows_hold
-
 pub reduce_rows-short-requires-clause-by_index : goal.reduce_rows-short-requires-clause-by_index
 reduce_rows-short-requires-clause-by_index c =
-    (_, held_well_formed (decoded_held _ c.decode-decoded.result _ _ _ c.decode-decoded.ensures c.in-Table.is))
+    (_, held_well_formed (decoded_held _ c.decode.result _ _ _ c.decode.ensures c.in-Ok.is))
 
 pub put_reduced-requires : goal.put_reduced-requires
 put_reduced-requires c =
-    let h = decoded_held _ c.decode-decoded.result _ _ _ c.decode-decoded.ensures c.in-Table.is in
+    let h = decoded_held _ c.decode.result _ _ _ c.decode.ensures c.in-Ok.is in
     let e = c.reduce_rows-short.ensures.by_index_2 _ (held_well_formed h) in
     (search rules, counts_few _ _ _ _ _ h _ _ _ _ e.0 e.1)
 
-pub returns-in-Table : goal.returns-in-Table
-returns-in-Table c =
-    let h = decoded_held _ c.decode-decoded.result _ _ _ c.decode-decoded.ensures c.in-Table.is in
+pub returns-in-Ok : goal.returns-in-Ok
+returns-in-Ok c =
+    let h = decoded_held _ c.decode.result _ _ _ c.decode.ensures c.in-Ok.is in
     let e = c.reduce_rows-short.ensures.by_index_2 _ (held_well_formed h) in
     rw (report_found _ _ _ _ _ h _ _ _ _ e.0 e.1) at c.put_reduced.ensures

@@ -1,13 +1,7 @@
 -- After q turns the states below q are in the set.
-use Rattle.std.proofs.Common.{ℕ, ◌-◌, ◌≤◌, ◌&&◌, true, ltb}
+use Rattle.std.proofs.Common.{ℕ, ◌&&◌, true, ltb}
 use Rattle.sets.specs.Inner.{Has}
 use Rattle.simulation.proofs.query.all_states.Given as goal
 
 abbrev pub invariant-loop-q : goal.invariant-loop-q
-invariant-loop-q l = record {
-  inside : l.q ≤ l.n;
-  has : Has l.set.words (λ (r : ℕ). ltb r l.q && true);
-}
-
-abbrev pub decreases-loop-q : goal.decreases-loop-q
-decreases-loop-q l = l.n - l.q
+invariant-loop-q l = Has l.set.words (λ (r : ℕ). ltb r l.q && true)

@@ -1,17 +1,18 @@
-use Rattle.std.proofs.Common.{arith}
+-- The word's own bytes, the lowest first.
+use Rattle.std.proofs.Common.{ℕ, ◌≡◌, ◌∙◌, ◌∷◌, [], div-one, refl, arith}
+use Rattle.std.proofs.lemmas.Slice.{put_mid-paste}
 use Rattle.lists.specs.Lists.{from}
-use Rattle.lists.proofs.Overwriting.{over_nil}
-use Rattle.simulation.specs.Inner.{bytes_of}
-use Rattle.simulation.proofs.RelationBytes.{byte_next}
+use Rattle.lists.specs.Over.{over}
+use Rattle.std.specs.Int.{to_le_bytes, w64}
+use Rattle.simulation.specs.Inner.{byte_of, bytes_of}
+use Rattle.simulation.proofs.RelationBytes.{length_bytes}
 use Rattle.simulation.proofs.query.put_word.Goals as goal
 
-pub loop-j-init : goal.loop-j-init
-unfolding bytes_of from
-loop-j-init c = record { inside = omega arith; written = over_nil _ _ }
+word_bytes : (word : ℕ) → to_le_bytes w64 word ≡ bytes_of (word ∷ []) 8
+unfolding bytes_of byte_of from
+word_bytes word = rw div-one refl
 
-pub loop-j-preserved : goal.loop-j-preserved
-loop-j-preserved c = record {
-  inside = omega arith;
-  written = byte_next c.args.out.now c.args.at c.args.word c.loop-j.out c.loop-j.j c.loop-j.invariant.written (omega arith)
-      (omega arith) (omega arith);
-}
+pub returns : goal.returns
+unfolding over
+returns c =
+    put_mid-paste _ _ _ _ (bytes_of (c.args.word ∷ []) 8) _ (c.copy_from_slice.ensures.after ∙ c.to_le_bytes.ensures ∙ word_bytes _) (length_bytes _ 8 ∙ omega arith) refl

@@ -39,4 +39,4 @@ module _ (ws : List ℕ) (q bit : ℕ) (eight : length ws ≡ 8) (low : q < 256)
       rw (none, zero-mul, or_zero_r) (ap gathered (set-get_or ws (2 * (q / 64)) 0))
 
 pub returns : goal.returns
-returns c = added _ c.args.q c.args.bit c.requires.0 (omega arith) c.requires.1 _ refl
+returns c = rw c.from-w.ensures (added _ c.args.q c.args.bit c.requires.0 (omega arith) c.requires.1 _ refl)

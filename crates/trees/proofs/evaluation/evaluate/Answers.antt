@@ -1,42 +1,57 @@
 use Rattle.std.proofs.Common.{arith, refl, ◌∙◌}
+use Rattle.std.proofs.lemmas.Result.{err_from_is_err_and}
 use Rattle.trees.specs.Inner.{Consecutive}
-use Rattle.trees.proofs.evaluation.Nodes.{walk_begins, walked_few, walk_ends, walk_refused, walk_counts, walk_next, consecutive_next}
+use Rattle.trees.proofs.evaluation.Nodes.{number_more, walk_begins, walked_few, walk_ends, walk_refused, walk_counts, walk_next, consecutive_next}
 use Rattle.trees.proofs.evaluation.evaluate.Goals as goal
 
-pub loop-held-init : goal.loop-held-init
+pub loop-symbol-init : goal.loop-symbol-init
 unfolding Consecutive
-loop-held-init c = (refl, refl, refl, λ A v. walk_begins A _ _ _)
+loop-symbol-init c =
+    rw (c.into_iter-symbol-iterator.ensures.into_iter_gives, c.chunks_exact-symbol-items.ensures.rest)
+    record { pairs = c.chunks_exact-symbol-items.ensures.size; left = omega arith; consecutive = refl; walked = λ A v. walk_begins A _ _ _ }
 
 pub step-requires-clause-height_bound : goal.step-requires-clause-height_bound
 step-requires-clause-height_bound c =
     let (A, v) = c.requires.evaluable in
-    let few = walked_few _ _ (c.loop-held.invariant.3 A v) in (
+    let steps = c.in-Some.ensures.steps in
+    let more = number_more _ c.args.b.now _ _ _ c.loop-symbol.invariant.left (steps.1.1 ∙ c.loop-symbol.invariant.pairs) steps.1.0 in
+    let few = walked_few _ _ (c.loop-symbol.invariant.walked A v) in (
       few.1,
-      λ h next low. rw (c.loop-held.invariant.0, c.loop-held.invariant.1) (c.requires.b_len_bound.1 h (omega arith) low),
+      λ h next low. rw (c.loop-symbol.auto.stack, c.loop-symbol.auto.starts) (c.requires.b_len_bound.1 h (omega arith) low),
     )
 
-pub returns-in-Refused : goal.returns-in-Refused
-returns-in-Refused c = λ A v.
-    walk_refused A _ (c.loop-held.invariant.3 A v) c.loop-held-test.true _ c.symbol_at-symbol.ensures _ _ _
-    (c.step.ensures.result_after A v) _ c.in-Refused.is
+pub step-requires-clause-nodes_bound : goal.step-requires-clause-nodes_bound
+step-requires-clause-nodes_bound c =
+    let steps = c.in-Some.ensures.steps in
+    let more = number_more _ c.args.b.now _ _ _ c.loop-symbol.invariant.left (steps.1.1 ∙ c.loop-symbol.invariant.pairs) steps.1.0 in
+    (omega (arith, c.requires.b_len_bound), c.loop-symbol.invariant.consecutive)
 
-pub loop-held-smaller : goal.loop-held-smaller
-loop-held-smaller c =
+pub returns-in_err-held : goal.returns-in_err-held
+returns-in_err-held c = λ A v.
+    let steps = c.in-Some.ensures.steps in
+    let p = err_from_is_err_and c.from_residual.result c.from_residual.ensures.1 in
+    rw (p.1, p.2)
+    (walk_refused A _ (c.loop-symbol.invariant.walked A v) _ _ (steps.1.1 ∙ c.loop-symbol.invariant.pairs) steps.1.0 _
+    (c.from.ensures ∙ c.number2.ensures) _ _ _ (c.step.ensures.result_after A v) _ c.in_err-held.was)
+
+pub loop-symbol-preserved : goal.loop-symbol-preserved
+loop-symbol-preserved c =
     let (A, v) = c.requires.evaluable in
+    let steps = c.in-Some.ensures.steps in
+    let two = steps.1.1 ∙ c.loop-symbol.invariant.pairs in
+    let more = number_more _ c.args.b.now _ _ _ c.loop-symbol.invariant.left two steps.1.0 in
     let counts =
-    walk_counts A _ (c.loop-held.invariant.3 A v) c.loop-held-test.true _ c.symbol_at-symbol.ensures _ _ _
-    (c.step.ensures.result_after A v) _ c.in-On.is in
-    omega arith
-
-pub loop-held-preserved : goal.loop-held-preserved
-loop-held-preserved c = (
-  c.step.auto.stack ∙ c.loop-held.invariant.0,
-  c.step.auto.starts ∙ c.loop-held.invariant.1,
-  consecutive_next _ _ _ c.in-On.is c.step.ensures.leaves_consecutive,
-  λ A v.
-      walk_next A _ (c.loop-held.invariant.3 A v) c.loop-held-test.true _ c.symbol_at-symbol.ensures _ _ _
-      (c.step.ensures.result_after A v) _ c.in-On.is,
-)
+    walk_counts A _ (c.loop-symbol.invariant.walked A v) _ _ two steps.1.0 _ (c.from.ensures ∙ c.number2.ensures) _ _ _
+    (c.step.ensures.result_after A v) _ c.in_ok-held.was in
+    record {
+      pairs = steps.0 ∙ c.loop-symbol.invariant.pairs;
+      left = rw counts more.1;
+      consecutive = consecutive_next _ _ _ c.in_ok-held.was c.step.ensures.leaves_consecutive;
+      walked = λ A v.
+          walk_next A _ (c.loop-symbol.invariant.walked A v) _ _ two steps.1.0 _ (c.from.ensures ∙ c.number2.ensures) _ _ _
+          (c.step.ensures.result_after A v) _ c.in_ok-held.was;
+    }
 
 pub returns : goal.returns
-returns c = λ A v. walk_ends A _ (c.loop-held.invariant.3 A v) c.loop-held-test.false
+returns c = λ A v.
+    walk_ends A _ (c.loop-symbol.invariant.walked A v) (omega (arith, c.in-None.ensures.steps.1.0, c.loop-symbol.invariant.pairs))

@@ -1,10 +1,7 @@
 -- The number says whether the children before the index fit.
-use Rattle.std.proofs.Common.{◌≡◌, ◌-◌, ◌≤◌, cond, length, take}
+use Rattle.std.proofs.Common.{◌≡◌, cond, take}
 use Rattle.trees.specs.Inner.{in_order}
 use Rattle.trees.proofs.evaluation.fits.Given as goal
 
 abbrev pub invariant-loop-j : goal.invariant-loop-j
-invariant-loop-j l = (l.j ≤ length l.children) × (l.bit ≡ cond (in_order l.sets (take l.j l.children)) 1 0)
-
-abbrev pub decreases-loop-j : goal.decreases-loop-j
-decreases-loop-j l = length l.children - l.j
+invariant-loop-j l = l.bit ≡ cond (in_order l.sets (take l.j l.children)) 1 0

@@ -1,23 +1,13 @@
-use Rattle.std.proofs.Common.{arith, rules, refl, sym, zero-add}
-use Rattle.lists.specs.Lists.{from, any}
-use Rattle.lists.proofs.Ranges.{from_step, from_member}
-use Rattle.lists.proofs.Search.{any_in, any_append}
-use Rattle.lists.proofs.Booleans.{or_false_in}
+-- The search goes over the numbers of the sets.
+use Rattle.std.proofs.Common.{refl, ◌∙◌, rules}
+use native.Mathlib.Nat.{sub-zero}
+use borrow.Author.Tests.{tests}
+use Rattle.std.proofs.lemmas.Iterator.{YieldsList-from_range}
+use Rattle.std.proofs.lemmas.Iterator.Search.{any_from_yields_List}
+use Rattle.trees.proofs.evaluation.NodeStates.{any_in_range}
 use Rattle.trees.proofs.evaluation.has_empty.Goals as goal
 
-pub loop-e-init : goal.loop-e-init
-unfolding any from
-loop-e-init c = (search rules, refl)
-
-pub returns-then-same : goal.returns-then-same
-returns-then-same c =
-    sym (any_in _ (from_member _ 0 c.loop-e.e (omega arith) (omega arith))
-    (sym (rw (c.entry.ensures, c.empty.ensures) at c.if-same.ensures)))
-
-pub loop-e-preserved : goal.loop-e-preserved
-unfolding any
-loop-e-preserved c = (
-  omega arith,
-  rw (from_step, zero-add, any_append)
-      (or_false_in c.loop-e.invariant.1 (or_false_in (sym (rw (c.entry.ensures, c.empty.ensures) at c.if-same.ensures)) refl)),
-)
+pub returns : goal.returns
+returns c =
+    any_from_yields_List _ _ _ _ c.any.ensures.ran (YieldsList-from_range 0 c.args.count c.args.count refl (sub-zero c.args.count)) (λ x b q k. search (rules, tests))
+    ∙ any_in_range _ 0 c.args.count

@@ -1,33 +1,54 @@
 -- Each return is one of the cases of `is_tree_record`.
-use Rattle.std.proofs.Common.{ℕ, ◌≡◌, refl, List, false}
+use Rattle.std.proofs.Common.{◌≡◌, ◌∙◌, length, rules}
+use mathlib.Core.Logic.{inl, inr}
+use Rattle.std.specs.Prelude.{None}
 use borrow.Author.Tests.{eq-eqb, ne_eqb}
-use Rattle.records.specs.Record.{opened}
 use Rattle.records.specs.Answers.{opening_of}
-use Rattle.records.specs.declared.record.Opened.{Opened}
-use Rattle.records.specs.declared.record.Opened.TheVariants.{Record, End, Refused}
 use Rattle.trees.specs.Postfix.{is_tree_record}
 use Rattle.trees.proofs.evaluation.is_tree.Goals as goal
-
-no_record : (b : List ℕ) (o : Opened) → opening_of o ≡ opened b → ((kind end : ℕ) → o ≡ Record kind end → ⊥)
-    → false ≡ is_tree_record (opened b) b
-unfolding opening_of is_tree_record
-no_record b (Record kind end) e none = absurd (none kind end refl)
-no_record b End e none = rw (← e)
-no_record b (Refused cause) e none = rw (← e)
+use Rattle.trees.proofs.evaluation.is_tree.Goals.{then-kind-from, else-kind-from}
 
 pub returns-in_default : goal.returns-in_default
-returns-in_default c = no_record _ _ c.open-o.ensures c.in_default.not-Record
-
-pub returns-then-kind-ne16 : goal.returns-then-kind-ne16
 unfolding opening_of is_tree_record
-returns-then-kind-ne16 c = rw (← c.in-Record.ensures, ne_eqb _ 16 c.if-kind-ne16.true)
+returns-in_default c =
+    let none : c.in_default.field-0 ≡ None = search rules in
+    rw (← c.open.ensures, c.in_default.is, none)
+
+pub returns-in_default-2 : goal.returns-in_default-2
+unfolding opening_of is_tree_record
+returns-in_default-2 c = rw (← c.open.ensures, c.in_default.is)
 
 pub returns-then-end-t : goal.returns-then-end-t
 unfolding opening_of is_tree_record
 returns-then-end-t c =
-    rw (← c.in-Record.ensures, eq-eqb _ 16 c.if-kind-ne16.false, ne_eqb _ _ c.if-end-t.true)
+    rw (
+      ← c.in-Ok-Some.ensures,
+      c.in-Ok-Some.field-0-is,
+      eq-eqb _ 16 (c.if-end-t.true.0 ∙ c.from.ensures),
+      eq-eqb _ _ c.if-end-t.true.1,
+      c.body.ensures,
+    )
 
-pub returns : goal.returns
+pub returns-else-end-t : goal.returns-else-end-t
 unfolding opening_of is_tree_record
-returns c =
-    rw (← c.in-Record.ensures, eq-eqb _ 16 c.if-kind-ne16.false, eq-eqb _ _ c.if-end-t.false, c.body.ensures)
+returns-else-end-t c =
+    elim c.if-kind-from.branch [
+      | then-kind-from w ↦
+          let more : c.in-Ok-Some.field-0-0.end ≡ length c.args.t.now → ⊥ =
+          λ e. elim c.if-end-t.either [ inl both ↦ both.1 e | inr other ↦ other w.if-kind-from.true ] in
+          rw (
+            w.t-6-is,
+            ← c.in-Ok-Some.ensures,
+            c.in-Ok-Some.field-0-is,
+            eq-eqb _ 16 (w.if-kind-from.true ∙ c.from.ensures),
+            ne_eqb _ _ more,
+          )
+      | else-kind-from w ↦
+          rw (
+            w.t-6-is,
+            ← c.in-Ok-Some.ensures,
+            c.in-Ok-Some.field-0-is,
+            ne_eqb _ _ w.if-kind-from.false,
+            ne_eqb _ 16 (rw c.from.ensures at w.if-kind-from.false),
+          )
+    ]

@@ -2,13 +2,15 @@
 use Rattle.std.proofs.Common.{ℕ, ◌+◌, ◌-◌, ◌*◌, ◌≤◌, ◌<◌, ◌≡◌, List, length, get_or, set, length-drop, length-set, arith, rules, Fits, w64}
 use lib.Seq.{get_or-set_same}
 use Rattle.lists.proofs.Arrays.{part_to_end}
+use Rattle.records.specs.Answers.{reading_of}
+use Rattle.records.specs.Read.{map_read}
 use Rattle.trees.specs.Inner.{StackRoom, stepped_of, LeavesConsecutive, start_of}
 use Rattle.trees.proofs.evaluation.Nodes.{node_start_low, node_consecutive, advance_unknown, advance_unbalanced, advance_above_limit, advance_node}
 use Rattle.trees.proofs.evaluation.Stacks.{rules_ranked}
 use Rattle.trees.proofs.evaluation.step.Goals as goal
 
 pub returns-then-symbol-ranks-clause-result_after : goal.returns-then-symbol-ranks-clause-result_after
-unfolding stepped_of
+unfolding stepped_of reading_of map_read
 returns-then-symbol-ranks-clause-result_after c = λ A v. advance_unknown v _ _ _ _ c.if-symbol-ranks.true
 
 pub returns-then-symbol-ranks-clause-leaves_consecutive : goal.returns-then-symbol-ranks-clause-leaves_consecutive
@@ -16,7 +18,7 @@ unfolding LeavesConsecutive
 returns-then-symbol-ranks-clause-leaves_consecutive c = tt
 
 pub returns-then-height-rank-clause-result_after : goal.returns-then-height-rank-clause-result_after
-unfolding stepped_of
+unfolding stepped_of reading_of map_read
 returns-then-height-rank-clause-result_after c = λ A v.
     advance_unbalanced v _ _ _ _ c.if-symbol-ranks.false c.if-height-rank.true
 
@@ -25,7 +27,7 @@ unfolding LeavesConsecutive
 returns-then-height-rank-clause-leaves_consecutive c = tt
 
 pub returns-then-e-ge1024-clause-result_after : goal.returns-then-e-ge1024-clause-result_after
-unfolding stepped_of
+unfolding stepped_of reading_of map_read
 returns-then-e-ge1024-clause-result_after c = λ A v.
     advance_above_limit v _ _ _ _ c.if-symbol-ranks.false c.if-height-rank.false c.if-e-ge1024.true
 
@@ -87,20 +89,20 @@ noted-requires c =
     )
 
 pub returns-clause-result_after : goal.returns-clause-result_after
-unfolding stepped_of
+unfolding stepped_of reading_of map_read
 returns-clause-result_after c = λ A v.
     let room = place_room _ _ _ _ c.requires.height_bound.1 c.if-height-rank.false c.if-e-ge1024.false in
     let four : length c.targets-set.result.words ≡ 4 = search (rules, c.targets-set.type_inv) in
     let bounded : (i : ℕ) → Fits w64 (get_or c.targets-set.result.words i 0) = λ i. search (rules, c.targets-set.type_inv) in
     rw (
       c.put_entry.ensures,
-      c.noted.ensures,
-      start_is c.args.starts.now _ _ _ _ c.put_start.ensures room.1,
       c.put_start.ensures,
     )
     (advance_node v _ _ _ _ c.if-symbol-ranks.false c.if-height-rank.false c.if-e-ge1024.false c.requires.nodes_bound.1
     (λ i. (c.type_inv.rows i).fits) room.1 room.0 _ four (λ i. (bounded i).fits)
-    (rw (c.rules_of-numbers.ensures, part_to_end c.args.stack.now _) at c.targets-set.ensures))
+    (rw (c.rules_of-numbers.ensures, part_to_end c.args.stack.now _) at c.targets-set.ensures)
+    c.noted.result
+    (rw (start_is c.args.starts.now _ _ _ _ c.put_start.ensures room.1) at c.noted.ensures))
 
 pub returns-clause-leaves_consecutive : goal.returns-clause-leaves_consecutive
 unfolding LeavesConsecutive

@@ -1,0 +1,2 @@
+mod Spaced
+pub mod Theorems
