@@ -2,7 +2,6 @@ pub mod Chunks
 pub mod Checked
 pub mod Encoding
 pub mod Rows
-pub mod Held
 pub mod TableCauses
 pub mod Theorems
 pub mod Examples

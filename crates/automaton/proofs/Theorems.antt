@@ -1,6 +1,6 @@
 -- What holds of reading, stated over the definitions of specs/ alone. Each theorem is proved in the file that its body names.
 use Prim.Native.Nat.{ℕ, ◌≤◌, ◌<◌}
-use mathlib.Core.Path.{◌≡◌, subst}
+use mathlib.Core.Path.{◌≡◌, sym, subst}
 use mathlib.Core.List.{List}
 use mathlib.Core.Bool.{true, false, not, ◌&&◌, ◌||◌}
 use lib.ListN.{length, get_or}
@@ -12,29 +12,26 @@ use Rattle.records.specs.Output.{written, written_over}
 use Rattle.records.proofs.Buffers as leaving
 use Rattle.automaton.specs.Automaton.{Automaton, WellFormed}
 use Rattle.automaton.specs.Table.{judge, encode}
-use Rattle.automaton.specs.Row.{Rows}
 use Rattle.automaton.specs.Inner.{judge_head, judge_behind}
-use Rattle.automaton.specs.Decoded.{automaton_in, Decodes}
-use Rattle.automaton.specs.declared.decoding.Decoded.{Decoded}
+use Rattle.records.specs.Answers.{reading_of}
 use Rattle.std.specs.Prelude.{Result, Ok}
 use Rattle.records.specs.declared.refusal.Refusal.{Refusal}
 use Rattle.records.proofs.Causes.{cause_of}
 use Rattle.automaton.proofs.TableCauses as causes
 use Rattle.automaton.proofs.Encoding as encoding
-use Rattle.automaton.proofs.Held as meaning
 use Rattle.automaton.proofs.table.Judging as judging
 
 -- A table that is judged without a refusal is a well-formed automaton.
 pub judged_well_formed : (b : List ℕ) (A : Automaton) → judge b ≡ found A → WellFormed A
 judged_well_formed = encoding.judge_well_formed
 
--- One that is refused has one of causes 1 to 7.
-pub judge_causes : (b : List ℕ) (cause : ℕ) → judge b ≡ refused cause → (1 ≤ cause) × (cause ≤ 7)
-judge_causes b cause = cause_of (causes.table_causes b)
-
 -- Judging is judging the first three records, and then the rules behind them.
 pub judge_in_parts : (b : List ℕ) → judge b ≡ judge_head b >>= judge_behind
 judge_in_parts = judging.judge_in_parts
+
+-- One that is refused has one of causes 1 to 7.
+pub judge_causes : (b : List ℕ) (cause : ℕ) → judge b ≡ refused cause → (1 ≤ cause) × (cause ≤ 7)
+judge_causes b cause = cause_of (causes.table_causes b)
 
 -- Encoding what was judged gives the same bytes back.
 pub encode_judged : (b : List ℕ) (A : Automaton) → ((i : ℕ) → get_or b i 0 < 256) → judge b ≡ found A → encode A ≡ b
@@ -54,20 +51,18 @@ table_length b A bytes e =
     subst (λ (l : List ℕ). (24 ≤ length l) × (length l ≤ 27416)) (encode_judged b A bytes e)
     (encoding.encode_length A (judged_well_formed b A e))
 
--- The arrays that decoding fills hold the automaton.
-pub decoded_means : (b : List ℕ) (r : Result Decoded Refusal) (d : Decoded) (ranks rows : List ℕ) → Decodes (judge b) r ranks rows
-    → r ≡ Ok d → judge b ≡ found (automaton_in d.size d.finals.words ranks rows)
-decoded_means = meaning.decoded_means
+-- What `decode` returns for a table that it does not refuse is the automaton that was read; it is well-formed, so that it can be written, and is
+-- then the table's own bytes.
+module _ (b : List ℕ) (r : Result Automaton Refusal) (A : Automaton) (e : reading_of r ≡ judge b) (is : r ≡ Ok A) where
+  pub decoded_means : judge b ≡ found A
+  unfolding reading_of
+  decoded_means = rw is at (sym e)
 
--- What `decode` returns for a table that it does not refuse can be written, and is then the table's own bytes.
-pub decoded_writable : (b : List ℕ) (r : Result Decoded Refusal) (d : Decoded) (ranks rows : List ℕ) → Decodes (judge b) r ranks rows
-    → r ≡ Ok d
-    → (d.size.symbols ≤ length ranks) × (Rows rows d.size.rules × WellFormed (automaton_in d.size d.finals.words ranks rows))
-decoded_writable = meaning.decoded_writable
+  pub decoded_writable : WellFormed A
+  decoded_writable = judged_well_formed b A decoded_means
 
-pub decoded_encodes : (b : List ℕ) (r : Result Decoded Refusal) (d : Decoded) (ranks rows : List ℕ) → ((i : ℕ) → get_or b i 0 < 256)
-    → Decodes (judge b) r ranks rows → r ≡ Ok d → encode (automaton_in d.size d.finals.words ranks rows) ≡ b
-decoded_encodes = meaning.decoded_encodes
+  pub decoded_encodes : ((i : ℕ) → get_or b i 0 < 256) → encode A ≡ b
+  decoded_encodes bytes = encode_judged b A bytes decoded_means
 
 -- Writing with too little room leaves the output.
 pub writing_leaves : (bytes out : List ℕ) (cause : ℕ) → written bytes out ≡ refused cause → written_over bytes out ≡ out

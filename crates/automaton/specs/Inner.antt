@@ -7,9 +7,9 @@ use Rattle.records.specs.Bytes.{numbers}
 use Rattle.records.specs.Read.{Read, found, ◌>>=◌, map_read}
 use Rattle.records.specs.Record.{body_of}
 use Rattle.records.specs.declared.refusal.Refusal.{Refusal}
-use Rattle.automaton.specs.Automaton.{Rule, Automaton}
-use Rattle.automaton.specs.Row.{width, rule_at, Row}
+use Rattle.automaton.specs.Automaton.{Automaton}
 use Rattle.automaton.specs.Table.{judge_record, size_in, judge_size, judge_ranks, judge_finals, judge_rules}
+use Rattle.automaton.specs.declared.row.Row.{Row}
 use Rattle.automaton.specs.declared.table.Size.{Size}
 use Rattle.automaton.specs.declared.table.Head.{Head}
 
@@ -54,13 +54,6 @@ pub record RuleBody (b : List ℕ) : Type 0 where
   pub even : length b % 2 ≡ 0
   pub low : All (λ (v : ℕ). v < 256) (numbers b)
 
--- Room for a row to each rule that t may hold: a rule takes ten bytes at least.
-unfoldable pub RowsRoom : List ℕ → List ℕ → Type 0
-RowsRoom t rows = (k : ℕ) → k ≤ 1024 → 10 * k ≤ length t → width * k ≤ length rows
-
--- Row i is made to hold u; the other rows hold what they held.
-pub record Puts (rows rows' : List ℕ) (i : ℕ) (u : Rule) : Type 0 where
-  pub as_long : length rows' ≡ length rows
-  pub row : Row rows' i
-  pub holds : rule_at rows' i ≡ u
-  pub others : (j : ℕ) → (j ≡ i → ⊥) → Row rows j → Row rows' j × (rule_at rows' j ≡ rule_at rows j)
+-- Room for each rule that t may hold: a rule takes ten bytes at least.
+unfoldable pub RowsRoom : List ℕ → List Row → Type 0
+RowsRoom t rows = (k : ℕ) → k ≤ 1024 → 10 * k ≤ length t → k ≤ length rows

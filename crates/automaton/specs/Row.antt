@@ -1,29 +1,15 @@
--- Decoded rules in a lent array of bytes: `width` bytes to a rule, its symbol, its target, the number of its children and its at most eight
--- children.
-use Rattle.std.specs.Prelude.{ℕ, ◌+◌, ◌*◌, ◌≤◌, ◌<◌, List, map, length, take, drop, get_or}
-use Rattle.lists.specs.Lists.{from}
+-- Decoded rules.
+use Rattle.std.specs.Prelude.{ℕ, List, [], map, take, get_or}
 use Rattle.automaton.specs.Automaton.{Rule}
+use Rattle.automaton.specs.declared.row.Row.{Row}
 
-abbrev pub width : ℕ
-width = 11
+abbrev pub rule_of : Row → Rule
+rule_of row = record { symbol = row.symbol; target = row.target; children = take row.rank row.children }
 
--- Rule i. The zeros of `get_or` are never read: the contracts that cite it ask that row i lies within the array.
-unfoldable pub rule_at : List ℕ → ℕ → Rule
-rule_at rows i = record {
-  symbol = get_or rows (width * i) 0;
-  target = get_or rows (width * i + 1) 0;
-  children = take (get_or rows (width * i + 2) 0) (drop (width * i + 3) rows);
-}
+-- The rules of some rows.
+abbrev pub rules_of : List Row → List Rule
+rules_of rows = map rule_of rows
 
--- The first k rules.
-unfoldable pub rules_in : List ℕ → ℕ → List Rule
-rules_in rows k = map (rule_at rows) (from 0 k)
-
--- Row i lies within the array and has at most eight children; and so has each of the first k, which are at most 1,024.
-pub record Row (rows : List ℕ) (i : ℕ) : Type 0 where
-  pub room : width * i + width ≤ length rows
-  pub rank : get_or rows (width * i + 2) 0 ≤ 8
-
-pub record Rows (rows : List ℕ) (k : ℕ) : Type 0 where
-  pub count : k ≤ 1024
-  pub row : (i : ℕ) → i < k → Row rows i
+-- Rule i of some rules. The rule without children is never read: the contracts that cite it ask that there is a rule i.
+unfoldable pub rule_at : List Rule → ℕ → Rule
+rule_at rules i = get_or rules i (record { symbol = 0; target = 0; children = [] })

@@ -1,26 +1,74 @@
-// A table judged and, in the same pass, decoded into arrays that the caller lends for work.
-ghost use Rattle.std.specs.Prelude.{◌≡◌, List, ℕ, ◌≤◌, ◌<◌, length};
+// A table judged and, in the same pass, decoded: its rules stand in an array that the caller lends.
+ghost use Rattle.std.specs.Prelude.{◌≡◌, List, ℕ, ◌≤◌, ◌<◌, length, take};
 ghost use Rattle.lists.specs.Lists.{All};
-ghost use Rattle.sets.specs.Inner.{set_of};
+ghost use Rattle.sets.specs.Inner.{states_in, set_of};
 ghost use Rattle.records.specs.Bytes.{numbers};
 ghost use Rattle.records.specs.Read.{found};
-ghost use Rattle.automaton.specs.Table as table;
-ghost use Rattle.automaton.specs.Automaton.{Rule};
-ghost use Rattle.automaton.specs.Row.{rules_in, Rows};
-ghost use Rattle.automaton.specs.Inner.{passing, RowsRoom};
 ghost use Rattle.records.specs.Answers.{reading_of};
-ghost use Rattle.automaton.specs.Decoded.{Decodes};
+ghost use Rattle.automaton.specs.Table as table;
+ghost use Rattle.automaton.specs.Automaton.{Rule, WellFormed};
+ghost use Rattle.automaton.specs.Row.{rules_of};
+ghost use Rattle.automaton.specs.Inner.{passing, RowsRoom};
 
-use crate::row::put_row;
+use crate::row::Row;
 use crate::table::{Size, judge_end, judge_head, rule_end};
-use records::{Refusal, body, number2, put_bytes};
+use records::{Refusal, body};
 use sets::StateSet;
+use std::marker::Model;
 
-// The counts of a table and its final states.
-#[derive(Clone, Copy)]
-pub struct Decoded {
-    pub size: Size,
+// A decoded table: contracts see the automaton that it holds, which is well-formed. Its ranks are a part of the table's bytes.
+#[derive(Drop)]
+pub struct Table<'t, 'r> {
+    pub states: usize,
+    pub ranks: &'t [u8],
     pub finals: StateSet,
+    pub rules: &'r mut [Row],
+}
+
+impl<'t, 'r> Model for Table<'t, 'r> {
+    ghost use Rattle.automaton.specs.Automaton.{Automaton, WellFormed};
+
+    ghost Value = { Automaton };
+
+    ghost use Rattle.automaton.specs.Decoded.{automaton_of};
+
+    ghost view = { automaton_of };
+
+    ghost invariant = { λ t. WellFormed (automaton_of t) };
+}
+
+impl<'t, 'r> Table<'t, 'r> {
+    ghost use Rattle.automaton.specs.Decoded.{size_of};
+
+    // Its counts.
+    pub fn size(&self) -> Size
+        ensures value { result ≡ size_of self.now }
+        ensures well_formed { WellFormed self.now }
+    {
+        Size {
+            states: self.states,
+            symbols: self.ranks.len(),
+            rules: self.rules.len(),
+        }
+    }
+
+    pub fn ranks(&self) -> &[u8]
+        ensures { result.now ≡ self.now.ranks }
+    {
+        self.ranks
+    }
+
+    pub fn finals(&self) -> StateSet
+        ensures { self.now.finals ≡ states_in self.now.states result.words }
+    {
+        self.finals
+    }
+
+    pub fn rules(&self) -> &[Row]
+        ensures { rules_of result.now ≡ self.now.rules }
+    {
+        self.rules
+    }
 }
 
 // The set of the two-byte numbers of `b`.
@@ -30,41 +78,42 @@ fn set_of(b: &[u8]) -> StateSet
 {
     let mut set = StateSet::empty();
     for q in b.chunks_exact(2) {
-        set = set.with(number2(q, 0) as u8);
+        set = set.with(q[0]);
     }
     set
 }
 
 // k rules, and nothing after them; each rule's row is put as the rule passes.
-fn decode_rules(t: &[u8], n: usize, ranks: &[u8], k: usize, rows: &mut [u8]) -> Result<(), Refusal>
+fn decode_rules(t: &[u8], n: usize, ranks: &[u8], k: usize, rows: &mut [Row]) -> Result<(), Refusal>
     requires n_bound { (n ≤ 256) × (k ≤ 1024) }
     requires ranks_len_bound { (length ranks.now ≤ 256) × All (λ (r : ℕ). r ≤ 8) ranks.now }
     requires rows_room { RowsRoom t.now rows.old }
     ensures result_value { reading_of result ≡ passing (table.judge_rules n ranks.now k t.now) }
-    ensures rows { (rules : List Rule) → table.judge_rules n ranks.now k t.now ≡ found rules
-        → Rows rows.new k × (rules_in rows.new k ≡ rules) }
+    ensures rules { (rules : List Rule) → table.judge_rules n ranks.now k t.now ≡ found rules
+        → (k ≤ length rows.new) × (rules_of (take k rows.new) ≡ rules) }
 {
     let mut rest = t;
     for i in 0..k {
         let end = rule_end(rest, n, ranks)?;
-        put_row(body(rest), rows, i);
+        rows[i] = Row::read(body(rest));
         rest = &rest[end..];
     }
     judge_end(rest)
 }
 
-// Judges a table as `judge` does and, where it is well-formed, decodes it: its counts and final states into the answer, its ranks and its rules to the
-// start of the lent arrays, which are for work: what a refused table leaves there means nothing.
-pub fn decode(t: &[u8], ranks: &mut [u8], rows: &mut [u8]) -> Result<Decoded, Refusal>
-    requires { (256 ≤ length ranks.old) × RowsRoom t.now rows.old }
-    ensures { Decodes (table.judge t.now) result ranks.new rows.new }
+// Judges a table as `judge` does and decodes it: its rules to the start of the lent array, which is for work: what a refused table leaves there means
+// nothing.
+pub fn decode<'t, 'r>(t: &'t [u8], rows: &'r mut [Row]) -> Result<Table<'t, 'r>, Refusal>
+    requires { RowsRoom t.now rows.old }
+    ensures { reading_of result ≡ table.judge t.now }
 {
     let head = judge_head(t)?;
-    let size = head.size;
-    put_bytes(ranks, 0, head.ranks);
-    decode_rules(head.rules, size.states, head.ranks, size.rules, rows)?;
-    Ok(Decoded {
-        size,
+    let count = head.size.rules;
+    decode_rules(head.rules, head.size.states, head.ranks, count, rows)?;
+    Ok(Table {
+        states: head.size.states,
+        ranks: head.ranks,
         finals: set_of(head.finals),
+        rules: &mut rows[..count],
     })
 }

@@ -12,8 +12,6 @@ pub use records::{Opened, Refusal, body, open};
 pub use table::{Size, judge};
 
 // Exported for the crates above: these ask for numbers or arrays in range.
-pub use decoding::{Decoded, decode};
-pub use row::{
-    FEW_ROWS, ROWS, children_of, children_of_rank, move_row, rename_row, symbol_of, target_of,
-};
+pub use decoding::{Table, decode};
+pub use row::{FEW_RULES, RULES, Row};
 pub use writing::write;

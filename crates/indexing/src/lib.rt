@@ -2,6 +2,8 @@
 #![tactic(auto)]
 
 mod index;
+mod key;
 
 // Exported for the crates above.
-pub use index::{FEW_INDEX, INDEX, Key, index_rules, rules_of};
+pub use index::{FEW_INDEX, INDEX, index_rules, numbers_of};
+pub use key::{BySymbol, ByTarget, Key};

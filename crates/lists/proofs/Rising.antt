@@ -4,7 +4,7 @@ use Prim.Native.Nat.{ℕ, ◌+◌, ◌≤◌, ◌<◌}
 use native.Mathlib.Omega.{arith}
 use mathlib.Core.Path.{◌≡◌, refl, sym, ap₂}
 use mathlib.Core.List.Memᴰ
-use mathlib.Core.List.{List, [], ◌∷◌, Memᴰ}
+use mathlib.Core.List.{List, [], ◌∷◌, ◌++◌, Memᴰ}
 use mathlib.Core.Bool.{Bool, true, false, cond}
 use lib.ListN.{length}
 use lib.Dec.{ltb}
@@ -25,6 +25,19 @@ rising_above (step {b = b} h r) (Memᴰ.tail m) = let l = rising_above r m in om
 pub rising_add : {x : ℕ} {xs : List ℕ} → ((q : ℕ) → Memᴰ q xs → x < q) → Rising xs → Rising (x ∷ xs)
 rising_add {xs = []} h r = single
 rising_add {xs = y ∷ ys} h r = step (h y (Memᴰ.head refl)) r
+
+-- The parts of a rising list around one of its elements.
+pub rising_part : (xs : List ℕ) {ys : List ℕ} → Rising (xs ++ ys) → Rising ys
+rising_part [] r = r
+rising_part (x ∷ xs) r = rising_part xs (rising_rest r)
+
+pub rising_before : (q : ℕ) (ys : List ℕ) {p : ℕ} {xs : List ℕ} → Rising (xs ++ (q ∷ ys)) → Memᴰ p xs → p < q
+rising_before q ys r (Memᴰ.head {xs = xs} e) = let h = rising_above r (behind xs) in omega arith
+  where
+    behind : (zs : List ℕ) → Memᴰ q (zs ++ (q ∷ ys))
+    behind [] = Memᴰ.head refl
+    behind (z ∷ zs) = Memᴰ.tail (behind zs)
+rising_before q ys r (Memᴰ.tail m) = rising_before q ys (rising_rest r) m
 
 pub rising_keep : (test : ℕ → Bool) {xs : List ℕ} → Rising xs → Rising (keep test xs)
 unfolding keep

@@ -11,6 +11,7 @@ use lib.Seq.{drop-cons}
 use lib.Dec.{eqb}
 use borrow.Author.Tests.{eq-eqb, eqb-true}
 use mathlib.Core.Logic.{◌⊎◌, inl, inr}
+use Rattle.std.specs.List.{list_all, list_any}
 use Rattle.lists.specs.Lists.{all, keep, among, from, any}
 use Rattle.lists.proofs.Booleans.{and_true_in, and_true_out, or_false_in, or_true_left, or_true_out, or_true_right}
 use Rattle.lists.proofs.Ranges.{each_from}
@@ -108,6 +109,18 @@ pub all_joined : {A : Type 0} (test : A → Bool) (xs ys : List A) → all test 
 unfolding all
 all_joined test [] ys = refl
 all_joined test (x ∷ xs) ys = rw (all_joined test xs ys) (sym (and_assoc (test x) (all test xs) (all test ys)))
+
+-- The searches of the library are these.
+
+pub all_listed : {A : Type 0} (test : A → Bool) (xs : List A) → list_all test xs ≡ all test xs
+unfolding all
+all_listed test [] = refl
+all_listed test (x ∷ xs) = ap (λ (t : Bool). test x && t) (all_listed test xs)
+
+pub any_listed : {A : Type 0} (test : A → Bool) (xs : List A) → list_any test xs ≡ any test xs
+unfolding any
+any_listed test [] = refl
+any_listed test (x ∷ xs) = ap (λ (t : Bool). test x || t) (any_listed test xs)
 
 -- A search from an index on: it ends at the first element that passes, goes on after one that fails, and has found none at the end.
 module _ (test : ℕ → Bool) (xs : List ℕ) (i : ℕ) where

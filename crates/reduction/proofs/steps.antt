@@ -1,3 +1,2 @@
-pub mod AllSteps
 pub mod EachStep
-pub mod StageArrays
+pub mod StageSets

@@ -1,26 +1,25 @@
 -- What the contracts of inner functions cite; the call `reduce` cites none of it. Places that an array does not have, where
 -- `get_or` would give its default, are ruled out by the bounds in the contracts that cite these.
-use Rattle.std.specs.Prelude.{ℕ, ◌<◌, ◌≡◌, Bool, true, false, not, ◌&&◌, ◌||◌, get_or, eqb, ltb}
+use Rattle.std.specs.Prelude.{ℕ, ◌≤◌, ◌<◌, ◌≡◌, Bool, true, false, not, ◌&&◌, ◌||◌, length, get_or, ltb}
 use mathlib.Core.List.{List, Memᴰ}
-use Rattle.lists.specs.Lists.{all, from, any, among}
+use mathlib.Core.Logic.{◌⊎◌}
+use Rattle.lists.specs.Lists.{All, from, any, among}
 use Rattle.sets.specs.Set.{member}
-use Rattle.sets.specs.Inner.{Has}
+use Rattle.sets.specs.Inner.{states_in}
 use Rattle.automaton.specs.Automaton.{Rule}
-use Rattle.automaton.specs.Row.{rule_at, rules_in}
+use Rattle.automaton.specs.Row.{rule_at, rules_of}
 use Rattle.refinement.specs.Simulation.{Relation}
 use Rattle.stages.specs.Steps.{Stage, same_rule, dominated_by}
 use Rattle.stages.specs.Inner.{Sound}
-use Rattle.reduction.specs.declared.growth.Way.{Way}
-use Rattle.reduction.specs.declared.growth.Way.TheVariants.{Up, Down}
-use Rattle.reduction.specs.declared.marking.Why.{Why}
-use Rattle.reduction.specs.declared.marking.Why.TheVariants.{Repeated, Dominated}
+use Rattle.reduction.specs.declared.steps.Work.TheInside.{Inside}
 
--- Arrays hold a stage whose states are below n: a set its final states, the first k rows its rules.
-pub record Holds (S : Stage) (n : ℕ) (finals rows : List ℕ) (k : ℕ) : Type 0 where
-  pub sound : Sound S
-  pub low : (q : ℕ) → Memᴰ q S.states → q < n
-  pub finals_are : Has finals (among S.finals)
-  pub rules_are : rules_in rows k ≡ S.rules
+-- The stage that is in work; its states and rules are those of a sound one.
+abbrev pub stage_of : Inside → Stage
+stage_of w = record { states = states_in 256 w.states.words; finals = states_in 256 w.finals.words; rules = rules_of w.rules.now }
+
+pub record InOrder (w : Inside) : Type 0 where
+  pub sound : Sound (stage_of w)
+  pub few : length w.rules.now ≤ 1024
 
 -- The new name of state q stands at place q.
 unfoldable pub name_in : List ℕ → ℕ → ℕ
@@ -30,31 +29,38 @@ name_in names q = get_or names q 0
 unfoldable pub marked : List Bool → ℕ → Bool
 marked marks i = get_or marks i false
 
--- Rule i goes because of rule j: that one is equal to it and stands before it, or dominates it.
-unfoldable pub goes_for : Why → Relation → List ℕ → ℕ → ℕ → Bool
-goes_for Repeated R rows i j = ltb j i && same_rule (rule_at rows j) (rule_at rows i)
-goes_for Dominated R rows i j = dominated_by R (rule_at rows i) (rule_at rows j)
+-- Rule i goes because of rule j: that one is equal to it and stands before it; or dominates it.
+unfoldable pub repeats : Relation → List Rule → ℕ → ℕ → Bool
+repeats R rules i j = ltb j i && same_rule (rule_at rules j) (rule_at rules i)
 
--- Rule i goes because of none of the first k.
-unfoldable pub stays : Why → Relation → List ℕ → ℕ → ℕ → Bool
-stays why R rows k i = not (any (goes_for why R rows i) (from 0 k))
+unfoldable pub dominates : Relation → List Rule → ℕ → ℕ → Bool
+dominates R rules i j = dominated_by R (rule_at rules i) (rule_at rules j)
 
--- What a rule adds to a set of states that grows: its target, if all its children are in the set; or its children, if its target is.
-unfoldable pub adds : Way → (ℕ → Bool) → Rule → ℕ → Bool
-adds Up set u q = eqb u.target q && all set u.children
-adds Down set u q = set u.target && among u.children q
+-- Rule i goes because of none of the rules.
+unfoldable pub stays : (Relation → List Rule → ℕ → ℕ → Bool) → Relation → List Rule → ℕ → Bool
+stays goes_for R rules i = not (any (goes_for R rules i) (from 0 (length rules)))
 
 -- A state that is final, or that a rule adds to those found before: up, without final states, the test `buildable`; down the test `needed`.
-unfoldable pub grows : Way → Stage → List ℕ → ℕ → Bool
-grows way S earlier q = among S.finals q || any (λ (u : Rule). adds way (among earlier) u q) S.rules
+unfoldable pub grows : ((ℕ → Bool) → Rule → ℕ → Bool) → Stage → List ℕ → ℕ → Bool
+grows adds S earlier q = among S.finals q || any (λ (u : Rule). adds (among earlier) u q) S.rules
 
 -- The states below 256 that pass one test pass another.
-abbrev pub Inside : (ℕ → Bool) → (ℕ → Bool) → Type 0
-Inside s t = (q : ℕ) → q < 256 → s q ≡ true → t q ≡ true
+abbrev pub Passes : (ℕ → Bool) → (ℕ → Bool) → Type 0
+Passes s t = (q : ℕ) → q < 256 → s q ≡ true → t q ≡ true
 
--- A pass over the first k rules loses no state, has what each rule adds, and has nothing else than what follows from these two.
-pub record Pass (way : Way) (rows : List ℕ) (k : ℕ) (before after : List ℕ) : Type 0 where
-  pub more : Inside (member before) (member after)
-  pub added : (i : ℕ) → i < k → Inside (adds way (member before) (rule_at rows i)) (member after)
-  pub least : (test : ℕ → Bool) → Inside (member before) test
-      → ((i : ℕ) → i < k → Inside (adds way test (rule_at rows i)) test) → Inside (member after) test
+-- The states that a rule names are below 256.
+pub record Low (u : Rule) : Type 0 where
+  pub target : u.target < 256
+  pub children : All (λ (q : ℕ). q < 256) u.children
+
+-- What a way of growing keeps to: to a larger set a rule adds no fewer states, and it adds only states that it names.
+pub record Adding (adds : (ℕ → Bool) → Rule → ℕ → Bool) : Type 0 where
+  pub more : (s t : ℕ → Bool) → Passes s t → (u : Rule) → Low u → (q : ℕ) → adds s u q ≡ true → adds t u q ≡ true
+  pub named : (s : ℕ → Bool) (u : Rule) (q : ℕ) → adds s u q ≡ true → (q ≡ u.target) ⊎ Memᴰ q u.children
+
+-- A pass over some rules loses no state, has what each rule adds, and has nothing else than what follows from these two.
+pub record Pass (adds : (ℕ → Bool) → Rule → ℕ → Bool) (rules : List Rule) (before after : List ℕ) : Type 0 where
+  pub more : Passes (member before) (member after)
+  pub added : (u : Rule) → Memᴰ u rules → Passes (adds (member before) u) (member after)
+  pub least : (test : ℕ → Bool) → Passes (member before) test
+      → ((u : Rule) → Memᴰ u rules → Passes (adds test u) test) → Passes (member after) test

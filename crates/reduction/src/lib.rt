@@ -12,4 +12,4 @@ mod steps;
 pub use reducing::{Reduction, reduce};
 
 // Exported for the crate above.
-pub use steps::reduce_rows;
+pub use steps::{Short, reduce_table};

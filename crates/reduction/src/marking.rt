@@ -1,121 +1,86 @@
 // Marks of the rules that a step keeps.
-ghost use Rattle.std.specs.Prelude.{◌≡◌, ◌&&◌, ℕ, ◌≤◌, ◌<◌, length};
-ghost use Rattle.lists.specs.Lists.{all};
-ghost use Rattle.sets.specs.Set.{member};
+ghost use Rattle.std.specs.Prelude.{◌≡◌, ℕ, Bool, true, List, ◌≤◌, ◌<◌, length};
 ghost use Rattle.automaton.specs.Automaton.{Rule};
-ghost use Rattle.automaton.specs.Row.{rule_at, Row, Rows};
+ghost use Rattle.automaton.specs.Row.{rule_at, rules_of};
 ghost use Rattle.indexing.specs.Index.{keyed};
+ghost use Rattle.refinement.specs.Simulation as simulation;
 ghost use Rattle.refinement.specs.Inner.{relation_in};
-ghost use Rattle.stages.specs.Steps.{same_states};
-ghost use Rattle.reduction.specs.Inner.{marked, goes_for};
+ghost use Rattle.reduction.specs.Inner.{marked, repeats, dominates};
 ghost use Rattle.reduction.specs.Inner as spec;
+ghost use Rattle.reduction.specs.Laws.{repeats_same_target, dominates_same_target};
 
-use automaton::{children_of, symbol_of, target_of};
-use indexing::{INDEX, Key, index_rules, rules_of};
-use refinement::is_matched_by;
-use sets::{StateSet, all_in};
+use automaton::Row;
+use indexing::{ByTarget, INDEX, index_rules, numbers_of};
+use refinement::Relation;
 
-// Marks the rules whose target and children are all in a set.
-pub fn mark_named(set: StateSet, rows: &[u8], k: usize, marks: &mut [bool])
-    requires { Rows rows.now k × (k ≤ length marks.old) }
-    ensures { (i : ℕ) → i < k → marked marks.new i
-        ≡ (member set.words (rule_at rows.now i).target
-        && all (member set.words) (rule_at rows.now i).children) }
-{
-    let mut i: usize = 0;
-    while i < k {
-        marks[i] = set.has(target_of(rows, i)) && all_in(set, children_of(rows, i));
-        i += 1;
+// Why a rule goes because of another of its target.
+pub trait Why {
+    // Rule i goes because of rule j.
+    ghost goes_for: { simulation.Relation → List Rule → ℕ → ℕ → Bool };
+
+    fn goes(relation: &Relation, rules: &[Row], i: usize, j: usize) -> bool
+        requires in_bounds { (i < length rules.now) × (j < length rules.now) }
+        requires target { (rule_at (rules_of rules.now) j).target ≡ (rule_at (rules_of rules.now) i).target }
+        ensures { result ≡ goes_for (relation_in relation.now.rows) (rules_of rules.now) i j };
+
+    // A rule goes only for one of its target.
+    ghost same_target: { (R : simulation.Relation) (rules : List Rule) (i j : ℕ) → goes_for R rules i j ≡ true
+        → (rule_at rules j).target ≡ (rule_at rules i).target };
+}
+
+// An equal rule stands before it.
+pub struct Repeated;
+
+// The other dominates it.
+pub struct Dominated;
+
+impl Why for Repeated {
+    ghost goes_for = { repeats };
+
+    ghost same_target = { repeats_same_target };
+
+    fn goes(_relation: &Relation, rules: &[Row], i: usize, j: usize) -> bool {
+        j < i
+            && rules[j].symbol() == rules[i].symbol()
+            && rules[j].children() == rules[i].children()
     }
 }
 
-// Whether two lists of states are the same.
-fn same_states(qs: &[u8], rs: &[u8]) -> bool
-    ensures { result ≡ same_states qs.now rs.now }
-{
-    if qs.len() != rs.len() {
-        return false;
-    }
-    let mut j: usize = 0;
-    while j < qs.len() {
-        if qs[j] != rs[j] {
-            return false;
-        }
-        j += 1;
-    }
-    true
-}
+impl Why for Dominated {
+    ghost goes_for = { dominates };
 
-// Why a rule goes: an equal one stands before it, or one dominates it.
-#[derive(Clone, Copy)]
-pub enum Why {
-    Repeated,
-    Dominated,
-}
+    ghost same_target = { dominates_same_target };
 
-// Whether rule i goes because of rule j, which has its target.
-fn goes_for(words: &[u64; 1024], rows: &[u8], i: usize, j: usize, why: Why) -> bool
-    requires row { Row rows.now i × Row rows.now j }
-    requires j_value { (rule_at rows.now j).target ≡ (rule_at rows.now i).target }
-    ensures { result ≡ goes_for why (relation_in words.now) rows.now i j }
-{
-    match why {
-        Why::Repeated => {
-            if j >= i {
-                return false;
-            }
-            if symbol_of(rows, j) != symbol_of(rows, i) {
-                return false;
-            }
-            same_states(children_of(rows, j), children_of(rows, i))
-        }
-        Why::Dominated => {
-            if !is_matched_by(words, rows, i, rows, j) {
-                return false;
-            }
-            !same_states(children_of(rows, i), children_of(rows, j))
-        }
+    fn goes(relation: &Relation, rules: &[Row], i: usize, j: usize) -> bool {
+        relation.matches(&rules[i], &rules[j]) && rules[i].children() != rules[j].children()
     }
 }
 
 // Whether rule i stays: it goes for no rule. Only those of its target are looked at, by their numbers.
-fn stays(words: &[u64; 1024], rows: &[u8], numbers: &[u16], i: usize, why: Why) -> bool
-    requires { (k : ℕ) × ((i < k) × (Rows rows.now k
-        × (numbers.now ≡ keyed (λ (u : Rule). u.target) rows.now (rule_at rows.now i).target k))) }
-    ensures { (k : ℕ) → numbers.now
-        ≡ keyed (λ (u : Rule). u.target) rows.now (rule_at rows.now i).target k
-        → result ≡ spec.stays why (relation_in words.now) rows.now k i }
+fn stays<W: Why>(relation: &Relation, rules: &[Row], numbers: &[u16], i: usize) -> bool
+    requires in_bounds { i < length rules.now }
+    requires numbers { numbers.now ≡ keyed (λ (u : Rule). u.target) (rules_of rules.now) (rule_at (rules_of rules.now) i).target }
+    ensures { result ≡ spec.stays W.goes_for (relation_in relation.now.rows) (rules_of rules.now) i }
 {
-    let mut j: usize = 0;
-    while j < numbers.len() {
-        if goes_for(words, rows, i, numbers[j] as usize, why) {
+    for j in numbers {
+        if W::goes(relation, rules, i, usize::from(*j)) {
             return false;
         }
-        j += 1;
     }
     true
 }
 
 // Marks the rules that stay; their targets are below n.
-pub fn mark_staying(
-    words: &[u64; 1024],
-    rows: &[u8],
-    k: usize,
-    n: usize,
-    why: Why,
-    marks: &mut [bool],
-)
-    requires rows { Rows rows.now k × (k ≤ length marks.old) }
-    requires n_bound { (n ≤ 256) × ((i : ℕ) → i < k → (rule_at rows.now i).target < n) }
-    ensures { (i : ℕ) → i < k → marked marks.new i
-        ≡ spec.stays why (relation_in words.now) rows.now k i }
+pub fn mark_staying<W: Why>(relation: &Relation, rules: &[Row], n: usize, marks: &mut [bool; 1024])
+    requires few { (n ≤ 256) × (length rules.now ≤ 1024) }
+    requires by_index { (i : ℕ) → i < length rules.now → (rule_at (rules_of rules.now) i).target < n }
+    ensures { (i : ℕ) → i < length rules.now → marked marks.new i
+        ≡ spec.stays W.goes_for (relation_in relation.now.rows) (rules_of rules.now) i }
 {
-    let mut index: [u16; INDEX] = [0; INDEX];
-    index_rules(rows, k, Key::Target, n, &mut index);
-    let mut i: usize = 0;
-    while i < k {
-        let numbers = rules_of(&index, target_of(rows, i) as usize);
-        marks[i] = stays(words, rows, numbers, i, why);
-        i += 1;
+    let mut index = [0; INDEX];
+    index_rules::<ByTarget>(rules, n, &mut index);
+    for (i, rule) in rules.iter().enumerate() {
+        let numbers = numbers_of(&index, usize::from(rule.target()));
+        marks[i] = stays::<W>(relation, rules, numbers, i);
     }
 }

@@ -1,12 +1,12 @@
 // Reducing a table.
 ghost use Rattle.std.specs.Prelude.{◌≡◌};
-ghost use Rattle.automaton.specs.Table.{judge};
 ghost use Rattle.records.specs.Answers.{reading_of};
+ghost use Rattle.automaton.specs.Table.{judge};
 ghost use Rattle.reduction.specs.Reduce.{reduction, reduction_after};
 ghost use Rattle.reduction.specs.Demand3.{MeetsDemand3};
 
-use crate::steps::reduce_rows;
-use automaton::{Decoded, ROWS, Size, decode, write};
+use crate::steps::reduce_table;
+use automaton::{RULES, Row, Size, decode, write};
 use records::Refusal;
 
 // The length of the reduced table, the counts of the table and of the reduced one, and the rounds of step 2, which are those of the
@@ -26,15 +26,15 @@ pub fn reduce(table: &[u8], out: &mut [u8]) -> Result<Reduction, Refusal>
     ensures out_after { out.new ≡ reduction_after (judge table.now) out.old }
     ensures meets_demand3 { MeetsDemand3 table.now out.old result out.new }
 {
-    let mut ranks: [u8; 256] = [0; 256];
-    let mut rows: [u8; ROWS] = [0; ROWS];
-    let Decoded { size, finals } = decode(table, &mut ranks, &mut rows)?;
-    let short = reduce_rows(size, finals, &mut rows);
-    let length = write(short.size, short.finals, &ranks, &rows, out)?;
+    let mut rows = [Row::EMPTY; RULES];
+    let decoded = decode(table, &mut rows)?;
+    let old = decoded.size();
+    let short = reduce_table(decoded);
+    let length = write(&short.table, out)?;
     Ok(Reduction {
         length,
-        old: size,
-        new: short.size,
+        old,
+        new: short.table.size(),
         rounds: short.rounds,
     })
 }

@@ -1,207 +1,172 @@
-// The six steps over decoded rules, in place. Each step asks that the rows it works on are in range.
-ghost use Rattle.std.specs.Prelude.{◌≡◌, List, map, ℕ, ◌≤◌, ◌<◌, length, get_or};
-ghost use Rattle.lists.specs.Lists.{keep, among};
+// The six steps over decoded rules, in place. What is in work is seen as the stage that the definitions of the steps speak of.
+ghost use Rattle.std.specs.Prelude.{◌≡◌, ◌≤◌, ℕ, length};
+ghost use mathlib.Core.List.{Memᴰ};
+ghost use Rattle.lists.specs.Lists.{keep};
 ghost use Rattle.sets.specs.Inner.{states_in};
-ghost use Rattle.sets.specs.Inner.{Has};
-ghost use Rattle.automaton.specs.Automaton.{WellFormed, renamed};
-ghost use Rattle.automaton.specs.Row.{rule_at, rules_in, Rows};
-ghost use Rattle.automaton.specs.Decoded.{automaton_in};
-ghost use Rattle.refinement.specs.Simulation as simulation;
-ghost use Rattle.refinement.specs.Inner.{relation_in};
-ghost use Rattle.refinement.specs.Inner.{Simulable};
-ghost use Rattle.stages.specs.Steps.{Stage, closure, names_only, below, quotient, pruned, shortened, position, reduce, reduction_rounds};
-ghost use Rattle.stages.specs.Inner.{Sound};
-ghost use Rattle.reduction.specs.Inner.{Holds, grows};
+ghost use Rattle.automaton.specs.Automaton.{WellFormed};
+ghost use Rattle.automaton.specs.Row.{rules_of};
+ghost use Rattle.refinement.specs.Inner.{relation_in, Simulable};
+ghost use Rattle.stages.specs.Steps.{names_only, trimmed, below, rounds_in, quotient, pruned, restricted, numbered, reduce, reduction_rounds};
 
 use crate::blocks::{name_blocks, number_states, rename_set};
-use crate::growth::{Way, grow};
-use crate::marking::{Why, mark_named, mark_staying};
-use crate::rows::{compact, rename_rules};
-use automaton::Size;
-use indexing::{INDEX, Key, index_rules};
+use crate::growth::{Down, Up, grow};
+use crate::marking::{Dominated, Repeated, mark_staying};
+use crate::rows::{compact, rename_rules, retain};
+use automaton::{Row, Table};
+use indexing::{ByTarget, INDEX, index_rules};
 use refinement::{Relation, simulate};
 use sets::StateSet;
+use std::marker::Model;
 
-// What steps 1 and 5 leave: the states, and how many rules.
-#[derive(Clone, Copy)]
-pub struct Kept {
-    pub states: StateSet,
-    pub rules: usize,
+// A table in work: the states that are left, the final ones among them, and the rules between them.
+#[derive(Drop)]
+struct Work<'r> {
+    states: StateSet,
+    finals: StateSet,
+    rules: &'r mut [Row],
 }
 
-// Steps 1 and 5: lets a set of states grow, and drops each rule that names a state outside it.
-fn keep_grown(start: StateSet, way: Way, rows: &mut [u8], k: usize) -> Kept
-    requires { Rows rows.old k }
-    ensures rows { Rows rows.new result.rules }
-    ensures has { (S : Stage) → Sound S → rules_in rows.old k ≡ S.rules → Has start.words (among S.finals)
-        → Has result.states.words (among (closure (grows way S) S.states))
-        × (rules_in rows.new result.rules ≡ keep (names_only (closure (grows way S) S.states)) S.rules) }
+impl<'r> Model for Work<'r> {
+    ghost use Rattle.stages.specs.Steps.{Stage};
+
+    ghost Value = { Stage };
+
+    ghost use Rattle.reduction.specs.Inner.{stage_of, InOrder};
+
+    ghost view = { stage_of };
+
+    ghost invariant = { InOrder };
+}
+
+// Of some rules those that name states of a set alone, over that set.
+fn keep_named<'r>(states: StateSet, finals: StateSet, rules: &'r mut [Row]) -> Work<'r>
+    requires few { length rules.old ≤ 1024 }
+    requires finals { (q : ℕ) → Memᴰ q (states_in 256 finals.words) → Memᴰ q (states_in 256 states.words) }
+    ensures { result ≡ record {
+      states = states_in 256 states.words;
+      finals = states_in 256 finals.words;
+      rules = keep (names_only (states_in 256 states.words)) (rules_of rules.old);
+    } }
 {
-    let states = grow(start, way, rows, k);
-    let mut marks: [bool; 1024] = [false; 1024];
-    mark_named(states, rows, k, &mut marks);
-    let rules = compact(rows, k, &marks);
-    Kept { states, rules }
+    let is_named = |rule: &Row| states.has(rule.target()) && states.has_all(rule.children());
+    let count = retain(rules, is_named);
+    Work {
+        states,
+        finals,
+        rules: &mut rules[..count],
+    }
 }
 
-// What step 3 leaves: the representatives of final states, and how many rules.
-#[derive(Clone, Copy)]
-pub struct Grouped {
-    pub finals: StateSet,
-    pub rules: usize,
-}
-
-// Step 3: groups equivalent states under their representatives; of equal rules the first stays. Returns the final
-// representatives and how many rules are left.
-fn group(words: &[u64; 1024], finals: StateSet, n: usize, rows: &mut [u8], k: usize) -> Grouped
-    requires n_bound { (n ≤ 256) × Rows rows.old k }
-    requires holds { (S : Stage) × (Holds S n finals.words rows.old k × (relation_in words.now ≡ below S)) }
-    ensures rows { Rows rows.new result.rules }
-    ensures holds_2 { (S : Stage) → Holds S n finals.words rows.old k → relation_in words.now ≡ below S
-        → Holds (quotient (below S) S) n result.finals.words rows.new result.rules }
+// Step 1: drops the states to which no tree belongs, and each rule that names one.
+fn trim<'t, 'r>(table: Table<'t, 'r>) -> Work<'r>
+    ensures { result ≡ trimmed table.entry }
 {
-    let mut names: [u8; 256] = [0; 256];
-    name_blocks(words, n, &mut names);
-    rename_rules(rows, k, &names);
-    let mut marks: [bool; 1024] = [false; 1024];
-    mark_staying(words, rows, k, n, Why::Repeated, &mut marks);
-    let rules = compact(rows, k, &marks);
-    Grouped {
-        finals: rename_set(finals, n, &names),
+    let Table { finals, rules, .. } = table;
+    let states = grow::<Up>(StateSet::empty(), rules);
+    keep_named(states, finals.meet(states), rules)
+}
+
+// Step 2: the simulation preorder on what step 1 leaves; returns its rounds.
+fn simulate_left(work: &Work, relation: &mut Relation) -> usize
+    requires { Simulable work.now.rules work.now.states }
+    ensures value { result ≡ rounds_in work.now }
+    ensures relation_after { relation_in relation.new.rows ≡ below work.now }
+{
+    let mut index = [0; INDEX];
+    index_rules::<ByTarget>(work.rules, 256, &mut index);
+    simulate(work.states, 256, work.rules, &index, relation)
+}
+
+// Step 3: groups equivalent states under their representatives; of equal rules the first stays.
+fn group<'r>(work: Work<'r>, relation: &Relation) -> Work<'r>
+    requires { relation_in relation.now.rows ≡ below work }
+    ensures { result ≡ quotient (below work.entry) work.entry }
+{
+    let Work {
+        states,
+        finals,
+        rules,
+    } = work;
+    let names = name_blocks(relation, states);
+    rename_rules(rules, &names);
+    let mut marks = [false; 1024];
+    mark_staying::<Repeated>(relation, rules, 256, &mut marks);
+    let count = compact(rules, &marks);
+    Work {
+        states: rename_set(states, &names),
+        finals: rename_set(finals, &names),
+        rules: &mut rules[..count],
+    }
+}
+
+// Step 4: drops together all dominated rules.
+fn prune<'r>(work: Work<'r>, relation: &Relation) -> Work<'r>
+    ensures { result ≡ pruned (relation_in relation.now.rows) work.entry }
+{
+    let Work {
+        states,
+        finals,
+        rules,
+    } = work;
+    let mut marks = [false; 1024];
+    mark_staying::<Dominated>(relation, rules, 256, &mut marks);
+    let count = compact(rules, &marks);
+    Work {
+        states,
+        finals,
+        rules: &mut rules[..count],
+    }
+}
+
+// Step 5: keeps the final states and, repeatedly, the children of rules whose target is kept.
+fn restrict<'r>(work: Work<'r>) -> Work<'r>
+    ensures { result ≡ restricted work.entry }
+{
+    let Work { finals, rules, .. } = work;
+    let states = grow::<Down>(finals, rules);
+    keep_named(states, finals, rules)
+}
+
+// Step 6: numbers the states that are left in order, and gives the table with these ranks.
+fn number<'t, 'r>(work: Work<'r>, ranks: &'t [u8]) -> Table<'t, 'r>
+    requires { WellFormed (numbered ranks.now work) }
+    ensures { result ≡ numbered ranks.now work.entry }
+{
+    let Work {
+        states,
+        finals,
+        rules,
+    } = work;
+    let names = number_states(states);
+    rename_rules(rules, &names);
+    Table {
+        states: states.len(),
+        ranks,
+        finals: rename_set(finals, &names),
         rules,
     }
 }
 
-// Step 4: drops together all dominated rules; returns how many are left.
-fn prune(words: &[u64; 1024], n: usize, rows: &mut [u8], k: usize) -> usize
-    requires rows { Rows rows.old k }
-    requires n_bound { (n ≤ 256) × ((i : ℕ) → i < k → (rule_at rows.old i).target < n) }
-    ensures rows_2 { Rows rows.new result }
-    ensures result_after { (S : Stage) → rules_in rows.old k ≡ S.rules
-        → rules_in rows.new result ≡ (pruned (relation_in words.now) S).rules }
-{
-    let mut marks: [bool; 1024] = [false; 1024];
-    mark_staying(words, rows, k, n, Why::Dominated, &mut marks);
-    compact(rows, k, &marks)
-}
-
-// How many states are kept, and the final ones among them by their new numbers.
-#[derive(Clone, Copy)]
-pub struct Numbered {
-    pub states: usize,
-    pub finals: StateSet,
-}
-
-// Step 6: numbers the kept states in order.
-fn renumber(states: StateSet, finals: StateSet, n: usize, rows: &mut [u8], k: usize) -> Numbered
-    requires { (n ≤ 256) × Rows rows.old k }
-    ensures states_value { (S : Stage) → Sound S → states_in n states.words ≡ S.states → Has finals.words (among S.finals)
-        → rules_in rows.old k ≡ S.rules
-        → (result.states ≡ length S.states)
-        × ((states_in result.states result.finals.words ≡ map (position S.states) S.finals)
-        × (rules_in rows.new k ≡ map (renamed (position S.states)) S.rules)) }
-    ensures rows { Rows rows.new k }
-{
-    let mut names: [u8; 256] = [0; 256];
-    let count = number_states(states, n, &mut names);
-    rename_rules(rows, k, &names);
-    Numbered {
-        states: count,
-        finals: rename_set(finals, n, &names),
-    }
-}
-
-// What steps 3 to 6 leave: how many states and rules, and the final states.
-#[derive(Clone, Copy)]
-pub struct Shortened {
-    pub states: usize,
-    pub rules: usize,
-    pub finals: StateSet,
-}
-
-// Steps 3 to 6, on what step 1 leaves and the relation that step 2 found.
-fn shorten(words: &[u64; 1024], finals: StateSet, n: usize, rows: &mut [u8], k: usize) -> Shortened
-    requires n_bound { (n ≤ 256) × Rows rows.old k }
-    requires holds { (S : Stage) × (Holds S n finals.words rows.old k × (relation_in words.now ≡ below S)) }
-    ensures rows { Rows rows.new result.rules }
-    ensures states_value { (S : Stage) → Holds S n finals.words rows.old k → relation_in words.now ≡ below S
-        → (result.states ≡ length (shortened S).states)
-        × ((states_in result.states result.finals.words ≡ map (position (shortened S).states) (shortened S).finals)
-        × (rules_in rows.new result.rules ≡ map (renamed (position (shortened S).states)) (shortened S).rules)) }
-{
-    let grouped = group(words, finals, n, rows, k);
-    let blocks = grouped.finals;
-    let undominated = prune(words, n, rows, grouped.rules);
-    let kept = keep_grown(blocks, Way::Down, rows, undominated);
-    let reached = kept.states;
-    let rules = kept.rules;
-    let numbered = renumber(reached, blocks, n, rows, rules);
-    let left = numbered.finals;
-    Shortened {
-        states: numbered.states,
-        rules,
-        finals: left,
-    }
-}
-
-// Step 2: the simulation preorder on what step 1 leaves, over words that are 0; returns its rounds.
-fn simulate_left(states: StateSet, size: Size, rows: &[u8], words: &mut [u64; 1024]) -> usize
-    requires states_bound { (size.states ≤ 256) × Rows rows.now size.rules }
-    requires simulable { Simulable (rules_in rows.now size.rules) (states_in size.states states.words) }
-    requires by_index { (i : ℕ) → get_or words.old i 0 ≡ 0 }
-    ensures value { result ≡ simulation.rounds
-        (rules_in rows.now size.rules) (states_in size.states states.words) }
-    ensures words_after { relation_in words.new ≡ simulation.relation
-        (rules_in rows.now size.rules) (states_in size.states states.words) }
-{
-    let mut index: [u16; INDEX] = [0; INDEX];
-    index_rules(rows, size.rules, Key::Target, size.states, &mut index);
-    simulate(states, size, rows, &index, words)
-}
-
-// A reduced table in arrays: its counts and final states, and the rounds of step 2.
-#[derive(Clone, Copy)]
-pub struct Short {
-    pub size: Size,
-    pub finals: StateSet,
+// A reduced table, and the rounds of step 2.
+#[derive(Drop)]
+pub struct Short<'t, 'r> {
+    pub table: Table<'t, 'r>,
     pub rounds: usize,
 }
 
-// All six steps, on a decoded table.
-pub fn reduce_rows(size: Size, finals: StateSet, rows: &mut [u8]) -> Short
-    requires rows { Rows rows.old size.rules }
-    requires by_index { (ranks : List ℕ) × WellFormed (automaton_in size finals.words ranks rows.old) }
-    ensures by_index_2 { (ranks : List ℕ) → WellFormed (automaton_in size finals.words ranks rows.old)
-        → (automaton_in result.size result.finals.words ranks rows.new
-        ≡ reduce (automaton_in size finals.words ranks rows.old))
-        × (result.rounds ≡ reduction_rounds (automaton_in size finals.words ranks rows.old)) }
-    ensures rows_2 { Rows rows.new result.size.rules × (result.size.symbols ≡ size.symbols) }
+// All six steps.
+pub fn reduce_table<'t, 'r>(table: Table<'t, 'r>) -> Short<'t, 'r>
+    ensures table { result.table ≡ reduce table.entry }
+    ensures rounds { result.rounds ≡ reduction_rounds table.entry }
 {
-    let trimmed = keep_grown(StateSet::empty(), Way::Up, rows, size.rules);
-    let states = trimmed.states;
-    let left = Size {
-        states: size.states,
-        symbols: size.symbols,
-        rules: trimmed.rules,
-    };
-    let mut relation = Relation { words: [0; 1024] };
-    let rounds = simulate_left(states, left, rows, &mut relation.words);
-    let short = shorten(
-        &relation.words,
-        finals.meet(states),
-        left.states,
-        rows,
-        left.rules,
-    );
-    let reduced = Size {
-        states: short.states,
-        symbols: size.symbols,
-        rules: short.rules,
-    };
-    let last = short.finals;
+    let ranks = table.ranks;
+    let trimmed = trim(table);
+    let mut relation = Relation::empty();
+    let rounds = simulate_left(&trimmed, &mut relation);
+    let grouped = group(trimmed, &relation);
+    let left = restrict(prune(grouped, &relation));
     Short {
-        size: reduced,
-        finals: last,
+        table: number(left, ranks),
         rounds,
     }
 }

@@ -4,3 +4,4 @@ pub mod Maximality
 pub mod Pairs
 pub mod RelationRows
 pub mod Answering
+pub mod RuleRows

@@ -1,21 +1,18 @@
--- The relation that rows of words hold, pair by pair: what it is from what the rows have. The rounds, the queries and the calls that read a
--- relation use it.
-use Prim.Native.Nat.{ℕ, zero, suc, ◌+◌, ◌*◌, ◌/◌, ◌%◌, ◌^◌, ◌<◌}
-use mathlib.Core.Path.{◌≡◌, refl, sym, ◌∙◌}
+-- The relation that rows hold, pair by pair: what it is from what the rows have. The rounds, the queries and the calls that read a relation use it.
+use Prim.Native.Nat.{ℕ, ◌<◌}
+use mathlib.Core.Path.{◌≡◌, refl, sym, ap, ◌∙◌}
 use mathlib.Core.List.{List, [], ◌∷◌, ◌++◌, map, Memᴰ}
 use mathlib.Core.Bool.{Bool, true, false, cond, ◌&&◌, false≢true}
 use native.Mathlib.Decide.{dec_lt}
 use native.Mathlib.Omega.{arith}
-use lib.ListN.{get_or, replicate}
-use lib.Dec.{eqb}
 use Rattle.lists.specs.Lists.{from, keep}
-use Rattle.lists.proofs.Keeping.{keep_append, keep_map, keep_both, keep_agree}
+use Rattle.lists.proofs.Keeping.{keep_append, keep_map, keep_both, keep_agree, keep_none}
 use Rattle.lists.proofs.Ranges.{from_member, member_from}
-use Rattle.sets.specs.Set.{member}
-use Rattle.sets.specs.Inner.{states_in}
+use Rattle.sets.specs.Set.{member, empty_set}
 use Rattle.sets.specs.Entries.{entry_at}
-use Rattle.sets.specs.Inner.{Has, Below}
-use Rattle.sets.proofs.EntrySets.{entry_at_lem}
+use Rattle.sets.specs.Inner.{states_in, Has, Below}
+use Rattle.sets.specs.declared.set.StateSet.{StateSet}
+use Rattle.sets.proofs.StateSets.{member_empty}
 use Rattle.automaton.specs.Automaton.{Rule}
 use Rattle.refinement.specs.Simulation.{related, survives, refine, all_pairs}
 use Rattle.refinement.specs.Inner.{relation_in}
@@ -51,31 +48,38 @@ all_below p m =
     let b = member_from 256 0 _ s.1 in
     (omega arith, omega arith)
 
-pub related_in : (words : List ℕ) (q r : ℕ) → q < 256 → r < 256
-    → related (relation_in words) q r ≡ member (entry_at words q) r
+pub related_in : (rows : List StateSet) (q r : ℕ) → q < 256 → r < 256
+    → related (relation_in rows) q r ≡ member (entry_at rows q) r
 unfolding relation_in
-related_in words q r a b =
-    keep_related (λ (p : ℕ × ℕ). member (entry_at words p.0) p.1) (all_pairs (from 0 256) (from 0 256)) q r
+related_in rows q r a b =
+    keep_related (λ (p : ℕ × ℕ). member (entry_at rows p.0) p.1) (all_pairs (from 0 256) (from 0 256)) q r
     ∙ rw (member_related (pair_member (from_member 256 0 q (omega arith) (omega arith))
     (from_member 256 0 r (omega arith) (omega arith))))
 
-relation_is : (words : List ℕ) (test : ℕ × ℕ → Bool)
-    → ((q : ℕ) → q < 256 → Has (entry_at words q) (λ (r : ℕ). test (q, r)))
-    → relation_in words ≡ keep test (all_pairs (from 0 256) (from 0 256))
+relation_is : (rows : List StateSet) (test : ℕ × ℕ → Bool)
+    → ((q : ℕ) → q < 256 → Has (entry_at rows q) (λ (r : ℕ). test (q, r)))
+    → relation_in rows ≡ keep test (all_pairs (from 0 256) (from 0 256))
 unfolding relation_in
-relation_is words test has =
+relation_is rows test has =
     keep_agree _ test (all_pairs (from 0 256) (from 0 256))
     (λ p m. let s = all_below p m in has p.0 s.0 p.1 s.1)
 
-pub relation_start : (words : List ℕ) (set : List ℕ)
-    → ((q : ℕ) → q < 256 → Has (entry_at words q) (λ (r : ℕ). member set q && member set r))
-    → relation_in words ≡ all_pairs (states_in 256 set) (states_in 256 set)
+-- Rows without a state.
+pub relation_none : (rows : List StateSet) → ((q : ℕ) → q < 256 → entry_at rows q ≡ empty_set) → relation_in rows ≡ []
+unfolding relation_in
+relation_none rows empty =
+    keep_none _ (all_pairs (from 0 256) (from 0 256)) (λ p m.
+    let s = all_below p m in ap (λ (set : List ℕ). member set p.1) (empty p.0 s.0) ∙ member_empty p.1 s.1)
+
+pub relation_start : (rows : List StateSet) (set : List ℕ)
+    → ((q : ℕ) → q < 256 → Has (entry_at rows q) (λ (r : ℕ). member set q && member set r))
+    → relation_in rows ≡ all_pairs (states_in 256 set) (states_in 256 set)
 unfolding states_in
-relation_start words set has =
-    relation_is words (λ (p : ℕ × ℕ). member set p.0 && member set p.1) has
+relation_start rows set has =
+    relation_is rows (λ (p : ℕ × ℕ). member set p.0 && member set p.1) has
     ∙ sym (keep_all_pairs (member set) (member set) (from 0 256) (from 0 256))
 
-pub relation_next : (rules : List Rule) (last next : List ℕ)
+pub relation_next : (rules : List Rule) (last next : List StateSet)
     → ((q : ℕ) → q < 256 → Has (entry_at next q) (related (refine rules (relation_in last)) q))
     → relation_in next ≡ refine rules (relation_in last)
 unfolding refine relation_in
@@ -86,19 +90,7 @@ relation_next rules last next has =
     ∙ sym (keep_both (survives rules (relation_in last)) (λ (p : ℕ × ℕ). member (entry_at last p.0) p.1)
     (all_pairs (from 0 256) (from 0 256)))
 
-pub relation_same : (last next : List ℕ) → ((q : ℕ) → q < 256 → Has (entry_at next q) (member (entry_at last q)))
+pub relation_same : (last next : List StateSet) → ((q : ℕ) → q < 256 → Has (entry_at next q) (member (entry_at last q)))
     → relation_in next ≡ relation_in last
 unfolding relation_in
 relation_same last next same = relation_is next (λ (p : ℕ × ℕ). member (entry_at last p.0) p.1) same
-
--- A bit of the words is a pair.
-pub pair_bit : (words : List ℕ) (q r : ℕ) → q < 256 → r < 256
-    → eqb (get_or words (4 * q + r / 64) 0 / 2 ^ (r % 64) % 2) 1 ≡ related (relation_in words) q r
-unfolding member
-pair_bit words q r h l = sym (related_in words q r h l ∙ rw (entry_at_lem words q (r / 64) (omega arith)))
-
--- Words that are 0.
-pub zero_words : (n i : ℕ) → get_or (replicate {A = ℕ} n 0) i 0 ≡ 0
-zero_words zero i = refl
-zero_words (suc n) zero = refl
-zero_words (suc n) (suc i) = zero_words n i

@@ -1,25 +1,25 @@
 -- What the contracts of matching, of the rounds and of the crates above cite of them; no call for everybody cites any of it. Places that an
 -- array does not have, where `get_or` would give its default, are ruled out by the bounds in the contracts that cite these.
-use Rattle.std.specs.Prelude.{ℕ, ◌≤◌, ◌<◌, ◌≡◌, Bool, true, false, not, ◌&&◌, ◌||◌, length, get_or, eqb}
-use mathlib.Core.List.{List, [], Memᴰ}
+use Rattle.std.specs.Prelude.{ℕ, ◌≤◌, ◌<◌, ◌≡◌, Bool, true, false, not, ◌&&◌, ◌||◌, length, eqb}
+use mathlib.Core.List.{List, Memᴰ}
 use Rattle.lists.specs.Lists.{from, keep, any, all}
 use Rattle.sets.specs.Set.{member}
 use Rattle.sets.specs.Entries.{entry_at}
 use Rattle.sets.specs.Inner.{Below, Has}
+use Rattle.sets.specs.declared.set.StateSet.{StateSet}
 use Rattle.automaton.specs.Automaton.{Rule}
-use Rattle.automaton.specs.Row.{rule_at, Rows}
 use Rattle.indexing.specs.Index.{Indexes}
 use Rattle.refinement.specs.Simulation.{Relation, related, matched, all_pairs}
 
--- The relation that 1,024 words hold: the set at entry q is the set of the states that q is related to.
-unfoldable pub relation_in : List ℕ → Relation
-relation_in words = keep (λ (p : ℕ × ℕ). member (entry_at words p.0) p.1) (all_pairs (from 0 256) (from 0 256))
+-- The relation that 256 rows hold: row q is the set of the states that q is related to.
+unfoldable pub relation_in : List StateSet → Relation
+relation_in rows = keep (λ (p : ℕ × ℕ). member (entry_at rows p.0) p.1) (all_pairs (from 0 256) (from 0 256))
 
--- The rules that answer in a round: k rules in rows, and their index by target, of which there are n.
-pub record Answering (k n : ℕ) (rows index : List ℕ) : Type 0 where
+-- The rules that answer in a round, and their index by target, of which there are n.
+pub record Answering (rules : List Rule) (n : ℕ) (index : List ℕ) : Type 0 where
   pub states : n ≤ 256
-  pub rules : Rows rows k
-  pub index_is : Indexes (λ (u : Rule). u.target) rows k n index
+  pub count : length rules ≤ 1024
+  pub index_is : Indexes (λ (u : Rule). u.target) rules n index
 
 -- What a relation on some states is computed of: rules that name these states alone, where rules of one symbol have equally many children.
 pub record Simulable (rules : List Rule) (states : List ℕ) : Type 0 where
@@ -48,28 +48,26 @@ Quiet rules others R touched =
     (u : Rule) → Memᴰ u rules → touched u ≡ false → (r : ℕ) → related R u.target r ≡ true → matched others R r u ≡ true
 
 -- No state is related to one from n on.
-unfoldable pub RowsBelow : ℕ → List ℕ → Type 0
-RowsBelow n words = (q : ℕ) → q < 256 → Below n (entry_at words q)
+unfoldable pub RowsBelow : ℕ → List StateSet → Type 0
+RowsBelow n rows = (q : ℕ) → q < 256 → Below n (entry_at rows q)
 
--- The rows of the states below n, one copy in each of two arrays.
-unfoldable pub Copied : ℕ → List ℕ → List (List ℕ) → Type 0
-Copied n words next = (q : ℕ) → q < n → get_or next q [] ≡ entry_at words q
+-- The rows of the states of a set, one copy in each of two arrays.
+unfoldable pub Copied : List ℕ → List StateSet → List StateSet → Type 0
+Copied states rows next = (q : ℕ) → q < 256 → member states q ≡ true → entry_at next q ≡ entry_at rows q
 
--- What a round works on: k rules in rows that ask for matches, with targets below n; j rules that answer, with an index by target, of which
--- there are m; and a relation to states below m alone, with a copy of the rows of the states below n.
-pub record Roundable (k n m j : ℕ) (words : List ℕ) (next : List (List ℕ)) (rows others index : List ℕ) : Type 0 where
-  pub states : n ≤ 256
-  pub rules : Rows rows k
-  pub targets : (i : ℕ) → i < k → (rule_at rows i).target < n
-  pub answering : Answering j m others index
-  pub copied : Copied n words next
-  pub low : RowsBelow m words
+-- What a round works on: rules that ask for matches, with targets in a set of states; others that answer, with an index by target, of which
+-- there are m; and a relation to states below m alone, with a copy of the rows of the states in the set.
+pub record Roundable (states : List ℕ) (m : ℕ) (rows next : List StateSet) (rules others : List Rule) (index : List ℕ) : Type 0 where
+  pub targets : (u : Rule) → Memᴰ u rules → (u.target < 256) × (member states u.target ≡ true)
+  pub answering : Answering others m index
+  pub copied : Copied states rows next
+  pub low : RowsBelow m rows
 
--- What a round leaves: the next relation's rows of the states below n, where of the states of the last one's those stay that pass a test,
+-- What a round leaves: the next relation's rows of the states in a set, where of the states of the last one's those stay that pass a test,
 -- and the set of the states whose rows lost one; the other rows are the last one's.
-pub record Rounded (n : ℕ) (stays : ℕ → ℕ → Bool) (words : List ℕ) (next : List (List ℕ)) (lost : List ℕ) : Type 0 where
-  pub four : (q : ℕ) → q < n → length (get_or next q []) ≡ 4
-  pub rows : (q : ℕ) → q < n → Has (get_or next q []) (λ (r : ℕ). member (entry_at words q) r && stays q r)
-  pub same : (q : ℕ) → q < n → member lost q ≡ false → get_or next q [] ≡ entry_at words q
-  pub fewer : (q : ℕ) → q < 256 → member lost q ≡ true
-      → (q < n) × (((r : ℕ) → r < 256 → member (entry_at words q) r ≡ true → member (get_or next q []) r ≡ true) → ⊥)
+pub record Rounded (states : List ℕ) (stays : ℕ → ℕ → Bool) (rows next : List StateSet) (lost : List ℕ) : Type 0 where
+  pub next_rows : (q : ℕ) → q < 256 → member states q ≡ true
+      → Has (entry_at next q) (λ (r : ℕ). member (entry_at rows q) r && stays q r)
+  pub same : (q : ℕ) → q < 256 → member states q ≡ true → member lost q ≡ false → entry_at next q ≡ entry_at rows q
+  pub fewer : (q : ℕ) → q < 256 → member lost q ≡ true → (member states q ≡ true)
+      × (((r : ℕ) → r < 256 → member (entry_at rows q) r ≡ true → member (entry_at next q) r ≡ true) → ⊥)

@@ -5,5 +5,5 @@ mod matching;
 mod rounds;
 
 // Exported for the crates above.
-pub use matching::{Relation, has_match, has_pair, is_matched_by};
+pub use matching::Relation;
 pub use rounds::simulate;

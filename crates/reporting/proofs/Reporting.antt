@@ -1,5 +1,5 @@
--- What a report says of a decoded table: its numbers have at most five digits and are those of the table, and it has at most 64 bytes. From
--- what decoding and reducing leave, for `report_on` and `report`.
+-- What a report says of a table: its numbers have at most five digits and are those of the table, and it has at most 64 bytes. From what
+-- judging gives, for `report_on` and `report`.
 use Prim.Native.Nat.{ℕ, ◌*◌, ◌-◌, ◌≤◌, ◌<◌}
 use native.Mathlib.Nat.{zero-add, mul-le-mul}
 use native.Mathlib.Omega.{arith}
@@ -17,11 +17,9 @@ use Rattle.records.specs.declared.refusal.Refusal.TheVariants.{FinalsOutOfOrder,
 use Rattle.records.specs.declared.refusal.Refusal.TheVariants.{TreeAboveLimit, UnknownState, ShortOutput}
 use Rattle.automaton.specs.Automaton.{Automaton, WellFormed}
 use Rattle.automaton.specs.Table.{judge}
-use Rattle.automaton.specs.Decoded.{size_of, automaton_in}
+use Rattle.automaton.specs.Decoded.{size_of}
 use Rattle.automaton.specs.declared.table.Size.{Size}
 use Rattle.automaton.proofs.Theorems.{judge_causes, judged_well_formed}
-use Rattle.automaton.proofs.Held.{Held, held_well_formed}
-use Rattle.automaton.proofs.Rows.{length_rules_in}
 use Rattle.refinement.proofs.Maximality.{Closed, rounds_below}
 use Rattle.stages.specs.Steps.{buildable, productive, trimmed, rounds_in, reduce, reduction_rounds}
 use Rattle.stages.proofs.Trimming.{trimmed_sound}
@@ -47,11 +45,9 @@ refusal_few TreeAboveLimit = omega arith
 refusal_few UnknownState = omega arith
 refusal_few ShortOutput = omega arith
 
-pub report_refused : (b : List ℕ) (cause : Refusal) → judge b ≡ refused (number_of cause)
-    → (out : List ℕ) (n end : ℕ) (now : List ℕ) → n ≡ number_of cause → Put out 0 (line refused_word (n ∷ [])) end now
-    → Put out 0 (report_of (judge b)) end now
+pub report_refused : (b : List ℕ) (cause : ℕ) → judge b ≡ refused cause → line refused_word (cause ∷ []) ≡ report_of (judge b)
 unfolding report_of
-report_refused b cause judged out n end now e put = rw (judged, ← e) put
+report_refused b cause judged = rw judged
 
 -- A table that is not refused, and what reducing it leaves.
 
@@ -65,7 +61,7 @@ reduction_rounds_few A w =
     let product : n * (n - 1) ≤ 256 * 255 = mul-le-mul few fewer in
     omega (arith, rounds_below (trimmed A).rules (trimmed A).states (λ u m t. (trimmed_sound A w).children u m))
 
-numbers_few : (A : Automaton) → WellFormed A → FewDigits (size_of A) (size_of (reduce A)) (reduction_rounds A)
+pub numbers_few : (A : Automaton) → WellFormed A → FewDigits (size_of A) (size_of (reduce A)) (reduction_rounds A)
 unfolding size_of
 numbers_few A w =
     let v = reduce_well_formed A w in
@@ -75,22 +71,10 @@ numbers_few A w =
       last = also (reduction_rounds_few A w) none;
     }
 
-module _ (b : List ℕ) (size : Size) (finals ranks cells : List ℕ) (held : Held b size finals ranks cells)
-    (left : Size) (finals' cells' : List ℕ) (rounds : ℕ)
-    (reduced : automaton_in left finals' ranks cells' ≡ reduce (automaton_in size finals ranks cells))
-    (counted : rounds ≡ reduction_rounds (automaton_in size finals ranks cells)) where
-  pub counts_few : FewDigits size left rounds
-  unfolding automaton_in size_of
-  counts_few =
-      let few =
-      rw (← reduced, ← counted, length_rules_in cells size.rules, length_rules_in cells' left.rules)
-      at (numbers_few (automaton_in size finals ranks cells) (held_well_formed held)) in
-      record { states = few.states; rules = few.rules; last = few.last }
-
-  pub report_found : reduced_lines size left rounds ≡ report_of (judge b)
-  unfolding reduced_lines report_of automaton_in
-  report_found =
-      rw (held.judged, ← held.holds, ← reduced, ← counted, length_rules_in cells size.rules, length_rules_in cells' left.rules)
+pub report_found : (b : List ℕ) (A : Automaton) → judge b ≡ found A
+    → reduced_lines (size_of A) (size_of (reduce A)) (reduction_rounds A) ≡ report_of (judge b)
+unfolding reduced_lines report_of size_of
+report_found b A judged = rw judged
 
 -- A report has at most 64 bytes.
 

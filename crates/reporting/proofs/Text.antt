@@ -1,7 +1,6 @@
 -- Bytes put into a buffer one after the other: the digits of a number from the last to the first, the numbers of a line, the lines of a report;
 -- and how long a line is at most. From the laws of `over` and of decimals, for the functions of src/lines.rt.
 use Prim.Native.Nat.{ℕ, zero, suc, ◌+◌, ◌-◌, ◌*◌, ◌/◌, ◌%◌, ◌≤◌, ◌<◌}
-use native.Mathlib.Nat.{add-suc, add-zero}
 use native.Mathlib.Numerals.{add-one}
 use native.Mathlib.Omega.{arith}
 use mathlib.Core.Path.{◌≡◌, refl, ◌∙◌}
@@ -39,33 +38,44 @@ byte_before out at d ds h =
     let next : suc at + length ds ≡ at + suc (length ds) = omega arith in
     rw (take-suc out at 0 h, next) (simp append_assoc (set_at (take at out) _ _ d at place))
 
--- The digits from place j on are written, and before them go the last j of what is left.
+-- The digits from place j on are written, and what is left has the digits before it.
 pub record Digits (out₀ : List ℕ) (at v : ℕ) (out : List ℕ) (left j : ℕ) : Type 0 where
+  pub within : at ≤ j
   pub digits : List ℕ
-  pub split : decimal v ≡ last_digits j left ++ digits
-  pub bytes : out ≡ over out₀ (at + j) digits
+  pub split : decimal v ≡ last_digits (j - at) left ++ digits
+  pub bytes : out ≡ over out₀ j digits
 
-pub digits_start : (out : List ℕ) (at v : ℕ) {n : ℕ} → n ≡ length (decimal v) → Digits out at v out v n
+pub digits_start : (out : List ℕ) (at v : ℕ) {n : ℕ} → n ≡ length (decimal v) → Digits out at v out v (at + n)
 digits_start out at v {n} e =
-    record { digits = []; split = decimal_last v ∙ rw (append-nil, e); bytes = over_nil out (at + n) }
+    let all : at + n - at ≡ n = omega arith in
+    record {
+      within = omega arith;
+      digits = [];
+      split = decimal_last v ∙ rw (append-nil, all, e);
+      bytes = over_nil out (at + n);
+    }
 
-pub digits_next : (out₀ : List ℕ) (at v : ℕ) (out : List ℕ) (left j k : ℕ) → 0 < j → k + 1 ≡ at + j → k < length out₀
-    → Digits out₀ at v out left j → Digits out₀ at v (set out k (48 + left % 10)) (left / 10) (j - 1)
+pub digits_next : (out₀ : List ℕ) (at v : ℕ) (out : List ℕ) (left j : ℕ) → at < j → j ≤ length out₀
+    → Digits out₀ at v out left j → Digits out₀ at v (set out (j - 1) (48 + left % 10)) (left / 10) (j - 1)
 unfolding last_digits
-digits_next out₀ at v out left zero k h e l d = absurd (omega arith)
-digits_next out₀ at v out left (suc j) k h e l d =
+digits_next out₀ at v out left zero h l d = absurd (omega arith)
+digits_next out₀ at v out left (suc j) h l d =
     let before : suc j - 1 ≡ j = omega arith in
-    let place : k ≡ at + j = omega arith in
+    let more : suc j - at ≡ suc (j - at) = omega arith in
     let digit : ℕ = 48 + left % 10 in
-    rw (before, place) (record {
+    rw before (record {
+      within = omega arith;
       digits = digit ∷ d.digits;
-      split = d.split ∙ append_assoc (last_digits j (left / 10)) (digit ∷ []) d.digits;
-      bytes = rw (d.bytes, add-suc) (byte_before out₀ (at + j) digit d.digits (omega arith));
+      split = rw more at d.split ∙ append_assoc (last_digits (j - at) (left / 10)) (digit ∷ []) d.digits;
+      bytes = rw d.bytes (byte_before out₀ j digit d.digits (omega arith));
     })
 
-pub digits_all : (out₀ : List ℕ) (at v : ℕ) (out : List ℕ) (left : ℕ) → Digits out₀ at v out left 0 → out ≡ over out₀ at (decimal v)
+pub digits_all : (out₀ : List ℕ) (at v : ℕ) (out : List ℕ) (left j : ℕ) → j ≤ at → Digits out₀ at v out left j → out ≡ over out₀ at (decimal v)
 unfolding last_digits
-digits_all out₀ at v out left d = rw (d.split, d.bytes, add-zero)
+digits_all out₀ at v out left j h d =
+    let same : j ≡ at = omega (arith, d.within) in
+    let none : j - at ≡ 0 = omega arith in
+    rw (d.bytes, same, rw none at d.split)
 
 -- A line's numbers.
 

@@ -5,25 +5,21 @@ ghost use Rattle.automaton.specs.Table.{judge};
 ghost use Rattle.reporting.specs.Report as spec;
 ghost use Rattle.reporting.specs.Inner.{Short, Put, FewDigits, reduced_lines};
 
-use automaton::{Decoded, ROWS, Size, decode};
+use automaton::{RULES, Row, Size, decode};
 use records::put_bytes;
-use reduction::reduce_rows;
+use reduction::reduce_table;
 
 // How many digits v has.
 fn digits(v: usize) -> usize
     requires { v < 100000 }
     ensures { result ≡ length (spec.decimal v) }
 {
-    if v < 10 {
-        1
-    } else if v < 100 {
-        2
-    } else if v < 1000 {
-        3
-    } else if v < 10000 {
-        4
-    } else {
-        5
+    match v {
+        0..=9 => 1,
+        10..=99 => 2,
+        100..=999 => 3,
+        1000..=9999 => 4,
+        _ => 5,
     }
 }
 
@@ -32,16 +28,14 @@ fn put_number(out: &mut [u8], at: usize, v: usize) -> usize
     requires { (v < 100000) × (at + 6 ≤ length out.old) }
     ensures { Put out.old at (32 ∷ spec.decimal v) result out.new }
 {
-    let n = digits(v);
-    out[at] = 32;
+    let end = at + 1 + digits(v);
+    out[at] = b' ';
     let mut left = v;
-    let mut j = n;
-    while j > 0 {
-        out[at + j] = (48 + left % 10) as u8;
-        left = left / 10;
-        j -= 1;
+    for j in (at + 1..end).rev() {
+        out[j] = b'0' + (left % 10) as u8;
+        left /= 10;
     }
-    at + 1 + n
+    end
 }
 
 // A word from `at` on; returns where it ends.
@@ -60,12 +54,10 @@ fn put_line(out: &mut [u8], at: usize, word: &[u8], numbers: &[usize]) -> usize
     ensures { Put out.old at (spec.line word.now numbers.now) result out.new }
 {
     let mut end = put_word(out, at, word);
-    let mut j: usize = 0;
-    while j < numbers.len() {
-        end = put_number(out, end, numbers[j]);
-        j += 1;
+    for v in numbers {
+        end = put_number(out, end, *v);
     }
-    out[end] = 10;
+    out[end] = b'\n';
     end + 1
 }
 
@@ -100,13 +92,13 @@ fn report_on(table: &[u8], out: &mut [u8]) -> usize
     requires { length out.old ≡ 64 }
     ensures { Put out.old 0 (spec.report_of (judge table.now)) result out.new }
 {
-    let mut ranks: [u8; 256] = [0; 256];
-    let mut rows: [u8; ROWS] = [0; ROWS];
-    match decode(table, &mut ranks, &mut rows) {
+    let mut rows = [Row::EMPTY; RULES];
+    match decode(table, &mut rows) {
         Err(cause) => put_line(out, 0, b"refused", &[u32::from(cause) as usize]),
-        Ok(Decoded { size, finals }) => {
-            let short = reduce_rows(size, finals, &mut rows);
-            put_reduced(out, size, short.size, short.rounds)
+        Ok(decoded) => {
+            let old = decoded.size();
+            let short = reduce_table(decoded);
+            put_reduced(out, old, short.table.size(), short.rounds)
         }
     }
 }

@@ -1,69 +1,87 @@
--- Sets at the entries of a lent array: what stands at an entry, and what does after a set is put at one. From the laws of numbers written over an
--- array, word by word; used by the code that keeps sets in lent words.
-use Prim.Native.Nat.{ℕ, ◌+◌, ◌*◌, ◌≤◌, ◌<◌}
-use native.Mathlib.Decide.{dec_lt}
-use native.Mathlib.Nat.{add-zero}
-use native.Mathlib.Numerals.{add-one, add-two, add-three}
+-- Sets of states, one after the other: what stands at an entry, after a set is put at one too, and that an entry is four words of 64 bits. By
+-- induction on the sets; used by the code that keeps sets in arrays.
+use Prim.Native.Nat.{ℕ, zero, suc, ◌+◌, ◌≤◌, ◌<◌}
+use native.Mathlib.Nat.{suc-add, zero-add}
 use native.Mathlib.Omega.{arith}
-use mathlib.Core.Path.{◌≡◌, sym, ◌∙◌}
-use mathlib.Core.List.{List, [], ◌∷◌}
-use lib.ListN.{length, drop, get_or, set, length-take, length-drop}
-use lib.Seq.{ext_get_or, get_or-take, get_or-drop, sets-eq}
-use Rattle.lists.specs.Over.{over}
-use Rattle.lists.proofs.Overwriting.{over_length, over_below, over_at, over_above}
-use Rattle.sets.specs.Set.{words}
+use mathlib.Core.Path.{◌≡◌, refl, sym, ap, ◌∙◌}
+use mathlib.Core.List.{List, [], ◌∷◌, ◌++◌}
+use lib.ListN.{length, drop, get_or, set, replicate}
+use Rattle.sets.specs.Set.{empty_set, words}
 use Rattle.sets.specs.Entries.{entry_at}
-use Rattle.sets.proofs.StateSets.{words_get_or}
+use Rattle.sets.specs.declared.set.StateSet.{StateSet}
+use Rattle.sets.proofs.StateSets.{Bounded, bounded_words}
 
--- Entries.
+-- A set that is read, whatever is read where there is none; `entry_is` as the code's reads tell it.
 
-pub entry_length : (words : List ℕ) (e : ℕ) → 4 * e + 4 ≤ length words → length (entry_at words e) ≡ 4
+pub entry_read : (sets : List StateSet) (e : ℕ) (d : StateSet) → e < length sets → (get_or sets e d).words ≡ entry_at sets e
 unfolding entry_at
-entry_length words e room = rw (length-take, length-drop) (omega arith)
+entry_read [] e d h = absurd (omega arith)
+entry_read (x ∷ xs) zero d h = refl
+entry_read (x ∷ xs) (suc e) d h = entry_read xs e d (omega arith)
 
-pub entry_at_lem : (words : List ℕ) (e j : ℕ) → j < 4 → get_or (entry_at words e) j 0 ≡ get_or words (4 * e + j) 0
+pub entry_is : (sets : List StateSet) (e : ℕ) (s : StateSet) → e < length sets → s ≡ get_or sets e s → s.words ≡ entry_at sets e
+entry_is sets e s h is = ap (λ (t : StateSet). t.words) is ∙ entry_read sets e s h
+
+pub entry_none : (sets : List StateSet) (e : ℕ) → length sets ≤ e → entry_at sets e ≡ empty_set
 unfolding entry_at
-entry_at_lem words e j h = rw (get_or-take 4 (drop (4 * e) words) j 0 h, get_or-drop)
+entry_none [] e h = refl
+entry_none (x ∷ xs) zero h = absurd (omega arith)
+entry_none (x ∷ xs) (suc e) h = entry_none xs e (omega arith)
 
-pub entry_words : (l : List ℕ) (e : ℕ) → 4 * e + 4 ≤ length l
-    → get_or l (4 * e) 0 ∷ get_or l (4 * e + 1) 0 ∷ get_or l (4 * e + 2) 0 ∷ get_or l (4 * e + 3) 0 ∷ [] ≡ entry_at l e
-unfolding words
-entry_words l e room =
-    let at : (j : ℕ) → j < 4 → get_or (entry_at l e) j 0 ≡ get_or l (4 * e + j) 0 = entry_at_lem l e in
-    sym (words_get_or (entry_at l e) (entry_length l e room)
-    ∙ rw (at 0 (omega arith), at 1 (omega arith), at 2 (omega arith), at 3 (omega arith), add-zero))
+-- Four words of 64 bits.
+
+pub entry_length : (sets : List StateSet) (e : ℕ) → length (entry_at sets e) ≡ 4
+unfolding entry_at empty_set words
+entry_length [] e = refl
+entry_length (x ∷ xs) zero = x.four
+entry_length (x ∷ xs) (suc e) = entry_length xs e
+
+pub entry_bounded : (sets : List StateSet) (e : ℕ) → Bounded (entry_at sets e)
+unfolding entry_at empty_set
+entry_bounded [] e = bounded_words (λ (i : ℕ). 0) (λ i. omega arith)
+entry_bounded (x ∷ xs) zero = x.bits
+entry_bounded (x ∷ xs) (suc e) = entry_bounded xs e
 
 -- A set put at an entry.
 
-pub four_put : (l new : List ℕ) (at : ℕ) → length new ≡ 4 → at + 4 ≤ length l
-    → set (set (set (set l at (get_or new 0 0)) (at + 1) (get_or new 1 0)) (at + 2) (get_or new 2 0)) (at + 3) (get_or new 3 0) ≡ over l at new
-unfolding over words
-four_put l new at four room =
-    rw (add-one, add-two, add-three, words_get_or new four)
-    (sets-eq (get_or new 0 0 ∷ get_or new 1 0 ∷ get_or new 2 0 ∷ get_or new 3 0 ∷ []) l at room)
+pub entry_put : (sets : List StateSet) (e : ℕ) (s : StateSet) → e < length sets → entry_at (set sets e s) e ≡ s.words
+unfolding entry_at
+entry_put [] e s h = absurd (omega arith)
+entry_put (x ∷ xs) zero s h = refl
+entry_put (x ∷ xs) (suc e) s h = entry_put xs e s (omega arith)
 
-module _ (words set : List ℕ) (e : ℕ) (four : length set ≡ 4) (room : 4 * e + 4 ≤ length words) where
-  pub entry_put : entry_at (over words (4 * e) set) e ≡ set
-  entry_put =
-      let long : length (over words (4 * e) set) ≡ length words = over_length words set (4 * e) (omega arith) in
-      ext_get_or 0 (entry_at (over words (4 * e) set) e) set (entry_length (over words (4 * e) set) e (omega arith) ∙ sym four)
-      (λ j h.
-      let low : j < 4 = omega (arith, entry_length (over words (4 * e) set) e (omega arith)) in
-      entry_at_lem (over words (4 * e) set) e j low ∙ over_at words set (4 * e) j (omega arith) (omega arith))
+pub entry_other : (sets : List StateSet) (e : ℕ) (s : StateSet) (q : ℕ) → (q ≡ e → ⊥) → entry_at (set sets e s) q ≡ entry_at sets q
+unfolding entry_at
+entry_other [] e s q other = refl
+entry_other (x ∷ xs) zero s zero other = absurd (other refl)
+entry_other (x ∷ xs) zero s (suc q) other = refl
+entry_other (x ∷ xs) (suc e) s zero other = refl
+entry_other (x ∷ xs) (suc e) s (suc q) other = entry_other xs e s q (λ same. other (ap suc same))
 
-  pub entry_other : (q : ℕ) → (q ≡ e → ⊥) → entry_at (over words (4 * e) set) q ≡ entry_at words q
-  unfolding entry_at
-  entry_other q other =
-      let long : length (over words (4 * e) set) ≡ length words = over_length words set (4 * e) (omega arith) in
-      ext_get_or 0 (entry_at (over words (4 * e) set) q) (entry_at words q) (simp (length-take, length-drop, long))
-      (λ j h.
-      let low : j < 4 = omega (arith, length-take 4 (drop (4 * q) (over words (4 * e) set))) in
-      entry_at_lem (over words (4 * e) set) q j low ∙ kept (4 * q + j) (omega arith) ∙ sym (entry_at_lem words q j low))
-    where
-      kept : (i : ℕ) → (4 * e ≤ i → i < 4 * e + 4 → ⊥) → get_or (over words (4 * e) set) i 0 ≡ get_or words i 0
-      kept i outside =
-          elim (dec_lt i (4 * e)) [
-            | yes l ↦ over_below words set (4 * e) i (omega arith) l
-            | no l ↦ over_above words set (4 * e) i (omega arith)
-                (elim (dec_lt i (4 * e + 4)) [ yes m ↦ absurd (outside (omega arith) m) | no m ↦ omega arith ])
-          ]
+-- One set at all entries, entries behind others, and one more.
+
+pub entry_repeated : (n e : ℕ) (s : StateSet) → e < n → entry_at (replicate n s) e ≡ s.words
+unfolding entry_at
+entry_repeated zero e s h = absurd (omega arith)
+entry_repeated (suc n) zero s h = refl
+entry_repeated (suc n) (suc e) s h = entry_repeated n e s (omega arith)
+
+pub entry_behind : (sets : List StateSet) (k e : ℕ) → entry_at (drop k sets) e ≡ entry_at sets (k + e)
+unfolding entry_at
+entry_behind sets zero e = ap (entry_at sets) (sym (zero-add e))
+entry_behind [] (suc k) e = entry_none [] e (omega arith) ∙ sym (entry_none [] (suc k + e) (omega arith))
+entry_behind (x ∷ xs) (suc k) e = entry_behind xs k e ∙ next xs (k + e) ∙ ap (entry_at (x ∷ xs)) (sym (suc-add k e))
+  where
+    next : (ys : List StateSet) (i : ℕ) → entry_at ys i ≡ entry_at (x ∷ ys) (suc i)
+    next ys i = refl
+
+pub entry_before : (sets more : List StateSet) (e : ℕ) → e < length sets → entry_at (sets ++ more) e ≡ entry_at sets e
+unfolding entry_at
+entry_before [] more e h = absurd (omega arith)
+entry_before (x ∷ xs) more zero h = refl
+entry_before (x ∷ xs) more (suc e) h = entry_before xs more e (omega arith)
+
+pub entry_last : (sets : List StateSet) (s : StateSet) → entry_at (sets ++ (s ∷ [])) (length sets) ≡ s.words
+unfolding entry_at
+entry_last [] s = refl
+entry_last (x ∷ xs) s = entry_last xs s

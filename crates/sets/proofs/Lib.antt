@@ -1,2 +1,5 @@
 pub mod StateSets
+pub mod StateLists
 pub mod EntrySets
+pub mod StateLoops
+pub mod SetBytes

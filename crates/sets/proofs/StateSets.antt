@@ -6,13 +6,16 @@ use mathlib.Core.List.{List, [], ◌∷◌, append-nil, Memᴰ}
 use mathlib.Core.Bool.{Bool, true, false, cond, not, ◌&&◌, ◌||◌, xor, true≢false, false≢true, or_comm, or-true, or-false}
 use mathlib.Core.Bool.{and-false, and_comm}
 use native.Mathlib.Nat.{one-mul, zero-div, pow-suc}
-use native.Mathlib.Numerals.{one-add}
+use native.Mathlib.Numerals.{one-add, add-one}
 use native.Mathlib.Omega.{arith}
-use lib.ListN.{length, get_or, set}
-use lib.Seq.{ext_get_or}
+use lib.ListN.{length, get_or, set, length-set, take}
+use lib.Seq.{ext_get_or, take-suc, get_or-set_same, get_or-set_other}
+use lib.Pointwise.{pointwise, bytes_decides}
 use lib.Dec.{eqb, eqb-zero-suc, eqb-suc-zero, eqb-suc-suc, ltb}
 use lib.Pow.{shl_exact, shr-shr, pow-lt}
-use lib.Bits.{bit_and, bit_or, bit_xor, differ, and_shr, and_step, or_shr, or_step, xor_shr, xor_step, or_lt}
+use lib.Bits.{bit_and, bit_or, bit_xor, differ, and_shr, and_step, or_shr, or_step, xor_shr, xor_step, or_lt, xor_lt, and_lt}
+use mir.Syntax.{w64}
+use Rattle.std.proofs.lemmas.Nat.Bits.{bit_at_clear_same, bit_at_clear_other}
 use borrow.Author.Tests.{eq-eqb, ne_eqb, eqb-true, eqb-false, ltb-true, lt-ltb, le-ltb}
 use Rattle.lists.specs.Lists.{All, Rising, from, keep, any, among}
 use Rattle.lists.proofs.Booleans.{and_true_out, same_bool, never_true, not_true_in, not_true_out}
@@ -20,9 +23,10 @@ use Rattle.lists.proofs.Elements.{all_member}
 use Rattle.lists.proofs.Keeping.{keep_in, keep_out, keep_agree, keep_none, keep_append}
 use Rattle.lists.proofs.Ranges.{from_append, from_rising, member_from, from_member, each_from}
 use Rattle.lists.proofs.Rising.{rising_keep, rising_same}
-use Rattle.lists.proofs.Search.{any_out, any_none_out, any_keep, any_same, among_in, among_out}
+use Rattle.lists.proofs.Search.{any_out, any_none_out, any_append, any_keep, any_same, among_in, among_out}
 use Rattle.sets.specs.Set as sets
 use Rattle.sets.specs.Set.{member, words, empty_set, replaced, with_state, without_state, union_of, meet_of, same_set}
+use Rattle.sets.specs.declared.set.StateSet.{StateSet}
 use Rattle.sets.specs.Inner.{with_all, set_of, states_in, Has}
 
 pub below_four : (P : ℕ → Type 0) → P 0 → P 1 → P 2 → P 3 → (i : ℕ) → i < 4 → P i
@@ -38,7 +42,7 @@ pub get_d_words : (f : ℕ → ℕ) (i : ℕ) → i < 4 → get_or (words f) i 0
 unfolding words
 get_d_words f = below_four (λ (i : ℕ). get_or (words f) i 0 ≡ f i) refl refl refl refl
 
-length_words : (f : ℕ → ℕ) → length (words f) ≡ 4
+pub length_words : (f : ℕ → ℕ) → length (words f) ≡ 4
 unfolding words
 length_words f = refl
 
@@ -47,18 +51,17 @@ words_get_or ws e =
     ext_get_or 0 ws (words (λ (i : ℕ). get_or ws i 0)) (e ∙ sym (length_words _))
     (λ i h. sym (get_d_words (λ (j : ℕ). get_or ws j 0) i (omega arith)))
 
--- An operation with a number in one word and 0 in the others, where 0 changes nothing.
-pub words_changed : (f : ℕ → ℕ → ℕ) → ((w : ℕ) → f w 0 ≡ w) → (ws : List ℕ) (i p : ℕ)
-    → words (λ (j : ℕ). f (get_or ws j 0) (cond (eqb j i) p 0)) ≡ replaced ws i (f (get_or ws i 0) p)
-unfolding words replaced
-words_changed f unchanged ws i p = rw (word 0, word 1, word 2, word 3)
+-- A word written over.
+pub set_replaced : (ws : List ℕ) (i w : ℕ) → length ws ≡ 4 → i < 4 → set ws i w ≡ replaced ws i w
+unfolding replaced
+set_replaced ws i w four low =
+    ext_get_or 0 (set ws i w) (words (λ (j : ℕ). cond (eqb j i) w (get_or ws j 0))) (length-set ws i w ∙ four ∙ sym (length_words _))
+    (λ j h. let lj : j < 4 = omega (arith, length-set ws i w) in
+    at j (eqb j i) refl ∙ sym (get_d_words (λ (k : ℕ). cond (eqb k i) w (get_or ws k 0)) j lj))
   where
-    word : (j : ℕ) → f (get_or ws j 0) (cond (eqb j i) p 0) ≡ cond (eqb j i) (f (get_or ws i 0) p) (get_or ws j 0)
-    word j = go (eqb j i) refl
-      where
-        go : (t : Bool) → eqb j i ≡ t → f (get_or ws j 0) (cond t p 0) ≡ cond t (f (get_or ws i 0) p) (get_or ws j 0)
-        go true e = rw (eqb-true j i e)
-        go false e = unchanged (get_or ws j 0)
+    at : (j : ℕ) (t : Bool) → eqb j i ≡ t → get_or (set ws i w) j 0 ≡ cond (eqb j i) w (get_or ws j 0)
+    at j true e = rw (e, eqb-true j i e) (get_or-set_same ws i w 0 (omega arith))
+    at j false e = rw e (get_or-set_other ws i j w 0 (eqb-false j i e))
 
 pub one_bit : (j : ℕ) → j < 64 → 1 * 2 ^ j % 18446744073709551616 ≡ 2 ^ j
 one_bit j h = shl_exact 1 j 64 (omega arith) (omega arith) ∙ one-mul (2 ^ j)
@@ -97,12 +100,12 @@ bit_digitwise op f g shifted stepped digit a b k =
     ∙ ap (λ (d : ℕ). op (x / 2) (y / 2) * 2 + d) (digit (x % 2) (y % 2) (omega arith) (omega arith)))
     ∙ last_bit (op (x / 2) (y / 2)) (g (bit a k) (bit b k))
 
-bit_or_lem : (a b k : ℕ) → bit (bit_or a b) k ≡ (bit a k || bit b k)
+pub bit_or_lem : (a b k : ℕ) → bit (bit_or a b) k ≡ (bit a k || bit b k)
 bit_or_lem =
     bit_digitwise bit_or max ◌||◌ or_shr or_step
     (two_digits (λ (x y : ℕ). max x y ≡ cond (eqb x 1 || eqb y 1) 1 0) refl refl refl refl)
 
-bit_and_lem : (a b k : ℕ) → bit (bit_and a b) k ≡ (bit a k && bit b k)
+pub bit_and_lem : (a b k : ℕ) → bit (bit_and a b) k ≡ (bit a k && bit b k)
 bit_and_lem =
     bit_digitwise bit_and min ◌&&◌ and_shr and_step
     (two_digits (λ (x y : ℕ). min x y ≡ cond (eqb x 1 && eqb y 1) 1 0) refl refl refl refl)
@@ -113,7 +116,7 @@ bit_xor_lem =
     bit_digitwise bit_xor differ xor xor_shr xor_step
     (two_digits (λ (x y : ℕ). differ x y ≡ cond (xor (eqb x 1) (eqb y 1)) 1 0) refl refl refl refl)
 
-bit_zero : (k : ℕ) → bit 0 k ≡ false
+pub bit_zero : (k : ℕ) → bit 0 k ≡ false
 unfolding bit
 bit_zero k = ap (λ (w : ℕ). eqb (w % 2) 1) (zero-div (2 ^ k))
 
@@ -129,12 +132,28 @@ bit_power (suc j) zero = ne_eqb (2 ^ suc j / 2 ^ 0 % 2) 1 (omega (arith, pow-suc
 bit_power (suc j) (suc k) =
     bit_suc (2 ^ suc j) k ∙ ap (λ (w : ℕ). bit w k) (omega (arith, pow-suc 2 j)) ∙ bit_power j k ∙ sym (eqb-suc-suc k j)
 
+same_digit : (x y : ℕ) → x < 2 → y < 2 → eqb x 1 ≡ eqb y 1 → x ≡ y
+same_digit =
+    two_digits (λ (x y : ℕ). eqb x 1 ≡ eqb y 1 → x ≡ y) (λ e. refl) (λ e. absurd (false≢true e))
+    (λ e. absurd (true≢false e)) (λ e. refl)
+
+same_bits : (n a b : ℕ) → a < 2 ^ n → b < 2 ^ n → ((k : ℕ) → k < n → bit a k ≡ bit b k) → a ≡ b
+unfolding bit
+same_bits zero a b ha hb same = omega arith
+same_bits (suc n) a b ha hb same =
+    let twice : 2 ^ suc n ≡ 2 ^ n * 2 = pow-suc 2 n in
+    let later : (k : ℕ) → k < n → bit (a / 2) k ≡ bit (b / 2) k =
+    λ k h. sym (bit_suc a k) ∙ same (suc k) (omega arith) ∙ bit_suc b k in
+    let halves : a / 2 ≡ b / 2 = same_bits n (a / 2) (b / 2) (omega arith) (omega arith) later in
+    let lasts : a / 2 ^ 0 % 2 ≡ b / 2 ^ 0 % 2 = same_digit _ _ (omega arith) (omega arith) (same 0 (omega arith)) in
+    omega arith
+
 -- Members.
 
 pub same_test : (a b c d : ℕ) → (a ≡ b → c ≡ d) → (c ≡ d → a ≡ b) → eqb a b ≡ eqb c d
 same_test a b c d f g = same_bool (λ e. eq-eqb c d (f (eqb-true a b e))) (λ e. eq-eqb a b (g (eqb-true c d e)))
 
-member_words : (f : ℕ → ℕ) (r : ℕ) → r < 256 → member (words f) r ≡ bit (f (r / 64)) (r % 64)
+pub member_words : (f : ℕ → ℕ) (r : ℕ) → r < 256 → member (words f) r ≡ bit (f (r / 64)) (r % 64)
 unfolding member bit
 member_words f r h = ap (λ (w : ℕ). bit w (r % 64)) (get_d_words f (r / 64) (omega arith))
 
@@ -178,6 +197,21 @@ member_without ws q r h =
     member_changed (λ (w : ℕ). bit_xor (bit_or w (2 ^ (q % 64))) (2 ^ (q % 64))) (λ (t b : Bool). not t && b) ws q r h
     (λ w k. rw (bit_xor_lem, bit_or_lem, bit_power) (set_then_flipped (bit w k) (eqb k (q % 64)))) (λ b. refl)
 
+-- A bit that is cleared by a mask, as the code does it.
+pub masked : (w k : ℕ) → w < 2 ^ 64 → k < 64
+    → bit_and w (18446744073709551615 - 1 * 2 ^ k % 18446744073709551616) ≡ bit_xor (bit_or w (2 ^ k)) (2 ^ k)
+unfolding bit
+masked w k small low =
+    same_bits 64 _ _ (and_lt 64 _ _ small (omega arith))
+    (xor_lt 64 _ _ (or_lt 64 _ _ small (pow-lt {i = k} {j = 64} low)) (pow-lt {i = k} {j = 64} low))
+    (λ i h. cleared i h (eqb i k) refl
+    ∙ sym (rw (bit_xor_lem, bit_or_lem, bit_power) (set_then_flipped (bit w i) (eqb i k))))
+  where
+    cleared : (i : ℕ) → i < 64 → (t : Bool) → eqb i k ≡ t
+        → bit (bit_and w (18446744073709551615 - 1 * 2 ^ k % 18446744073709551616)) i ≡ (not (eqb i k) && bit w i)
+    cleared i h true e = rw (e, eqb-true i k e) (ap (λ (v : ℕ). eqb v 1) (bit_at_clear_same w64 w k low))
+    cleared i h false e = rw e (ap (λ (v : ℕ). eqb v 1) (bit_at_clear_other w64 w k low i h (eqb-false i k e)))
+
 pub member_union : (ws vs : List ℕ) (r : ℕ) → r < 256 → member (union_of ws vs) r ≡ (member ws r || member vs r)
 unfolding union_of member bit
 member_union ws vs r h = member_words _ r h ∙ bit_or_lem _ _ (r % 64)
@@ -191,6 +225,10 @@ member_meet ws vs r h = member_words _ r h ∙ bit_and_lem _ _ (r % 64)
 or_rotate : (a b c : Bool) → (a || (b || c)) ≡ ((b || a) || c)
 or_rotate a true c = or-true a
 or_rotate a false c = refl
+
+or_last : (a b c : Bool) → (a || (b || c)) ≡ (b || (c || a))
+or_last true b c = sym (ap (λ (t : Bool). b || t) (or-true c) ∙ or-true b)
+or_last false b c = ap (λ (t : Bool). b || t) (sym (or-false c))
 
 pub member_with_all : (ws qs : List ℕ) (r : ℕ) → r < 256 → member (with_all ws qs) r ≡ (among qs r || member ws r)
 unfolding with_all among any
@@ -228,22 +266,6 @@ states_of_set qs n h highs rise =
 
 -- Sets with the same members.
 
-same_digit : (x y : ℕ) → x < 2 → y < 2 → eqb x 1 ≡ eqb y 1 → x ≡ y
-same_digit =
-    two_digits (λ (x y : ℕ). eqb x 1 ≡ eqb y 1 → x ≡ y) (λ e. refl) (λ e. absurd (false≢true e))
-    (λ e. absurd (true≢false e)) (λ e. refl)
-
-same_bits : (n a b : ℕ) → a < 2 ^ n → b < 2 ^ n → ((k : ℕ) → k < n → bit a k ≡ bit b k) → a ≡ b
-unfolding bit
-same_bits zero a b ha hb same = omega arith
-same_bits (suc n) a b ha hb same =
-    let twice : 2 ^ suc n ≡ 2 ^ n * 2 = pow-suc 2 n in
-    let later : (k : ℕ) → k < n → bit (a / 2) k ≡ bit (b / 2) k =
-    λ k h. sym (bit_suc a k) ∙ same (suc k) (omega arith) ∙ bit_suc b k in
-    let halves : a / 2 ≡ b / 2 = same_bits n (a / 2) (b / 2) (omega arith) (omega arith) later in
-    let lasts : a / 2 ^ 0 % 2 ≡ b / 2 ^ 0 % 2 = same_digit _ _ (omega arith) (omega arith) (same 0 (omega arith)) in
-    omega arith
-
 pub same_members : (ws vs : List ℕ) → length ws ≡ 4 → length vs ≡ 4 → ((i : ℕ) → get_or ws i 0 < 2 ^ 64)
     → ((i : ℕ) → get_or vs i 0 < 2 ^ 64) → ((r : ℕ) → r < 256 → member ws r ≡ member vs r) → ws ≡ vs
 unfolding member bit
@@ -274,6 +296,13 @@ same_set_out ws vs lw lv e =
     same : ℕ → Bool
     same i = eqb (get_or ws i 0) (get_or vs i 0)
 
+-- What the code's `==` answers at two sets.
+pub same_pairs : (a b : StateSet) → pointwise eqb a.words b.words ≡ same_set a.words b.words
+same_pairs a b =
+    same_bool
+    (λ e. ap (λ (l : List ℕ). same_set l b.words) ((bytes_decides a.words b.words).0 e) ∙ same_set_in b.words)
+    (λ e. (bytes_decides a.words b.words).1 (same_set_out a.words b.words a.four b.four e))
+
 -- The states of a set that has those below n that pass a test.
 pub states_below : (test : ℕ → Bool) (low : List ℕ) (n : ℕ) → n ≤ 256 → Has low (λ (r : ℕ). ltb r n && test r)
     → states_in 256 low ≡ keep test (from 0 n)
@@ -292,13 +321,18 @@ states_below test low n h has =
 abbrev pub Bounded : List ℕ → Type 0
 Bounded ws = (i : ℕ) → get_or ws i 0 < 2 ^ 64
 
-bounded_words : (f : ℕ → ℕ) → ((i : ℕ) → f i < 2 ^ 64) → Bounded (sets.words f)
+pub bounded_words : (f : ℕ → ℕ) → ((i : ℕ) → f i < 2 ^ 64) → Bounded (sets.words f)
 unfolding sets.words
 bounded_words f h zero = h 0
 bounded_words f h (suc zero) = h 1
 bounded_words f h (suc (suc zero)) = h 2
 bounded_words f h (suc (suc (suc zero))) = h 3
 bounded_words f h (suc (suc (suc (suc i)))) = omega arith
+
+pub bounded_put : (ws : List ℕ) (i w : ℕ) → Bounded ws → w < 2 ^ 64 → Bounded (set ws i w)
+bounded_put [] i w b h = b
+bounded_put (v ∷ vs) zero w b h = elim [ zero ↦ h | suc j ↦ b (suc j) ]
+bounded_put (v ∷ vs) (suc i) w b h = elim [ zero ↦ b 0 | suc j ↦ bounded_put vs i w (λ k. b (suc k)) h j ]
 
 bounded_with : (ws : List ℕ) (q : ℕ) → Bounded ws → Bounded (with_state ws q)
 unfolding with_state replaced
@@ -327,6 +361,16 @@ sets_differ ws vs lw lv bw bv other same =
 pub ltb_more : (r q : ℕ) → (r ≡ q → ⊥) → ltb r (q + 1) ≡ ltb r q
 ltb_more r q other =
     same_bool (λ e. lt-ltb r q (omega (arith, ltb-true r (q + 1) e))) (λ e. lt-ltb r (q + 1) (omega (arith, ltb-true r q e)))
+
+pub none_below : (r : ℕ) → r < 256 → member empty_set r ≡ ltb r 0
+none_below r h = member_empty r h ∙ sym (le-ltb r 0 (omega arith))
+
+pub below_more : (set : List ℕ) (q : ℕ) → Has set (λ (r : ℕ). ltb r q) → Has (with_state set q) (λ (r : ℕ). ltb r (q + 1))
+below_more set q has r b = member_with set q r b ∙ go (eqb r q) refl
+  where
+    go : (t : Bool) → eqb r q ≡ t → (t || member set r) ≡ ltb r (q + 1)
+    go true e = let same = eqb-true r q e in sym (lt-ltb r (q + 1) (omega arith))
+    go false e = has r b ∙ sym (ltb_more r q (eqb-false r q e))
 
 module _ (set : List ℕ) (test : ℕ → Bool) (q : ℕ) (has : Has set (λ (r : ℕ). ltb r q && test r)) where
   pub below_in : q < 256 → test q ≡ true → Has (with_state set q) (λ (r : ℕ). ltb r (q + 1) && test r)
@@ -371,6 +415,18 @@ some_state set four bounded = same_bool (has_one (any (member set) (from 0 256))
         let low : f.element < 256 = omega (arith, (member_from 256 0 f.element f.member).1) in
         not_true_in (λ h. true≢false (sym f.passes
         ∙ ap (λ (ws : List ℕ). member ws f.element) (same_set_out set empty_set four refl h) ∙ member_empty f.element low))
+
+-- One state more of a list whose states are added to a set.
+pub with_more : (set first qs : List ℕ) (i : ℕ) → i < length qs → Has set (λ (r : ℕ). member first r || among (take i qs) r)
+    → Has (with_state set (get_or qs i 0)) (λ (r : ℕ). member first r || among (take (i + 1) qs) r)
+unfolding among any
+with_more set first qs i h has r b =
+    let q = get_or qs i 0 in
+    member_with set q r b ∙ rw (has r b, add-one, take-suc qs i 0 h, any_append) (placed (eqb r q) (eqb q r) (same_test r q q r sym sym))
+  where
+    placed : (s t : Bool) → s ≡ t → (s || (member first r || any (λ (p : ℕ). eqb p r) (take i qs)))
+        ≡ (member first r || (any (λ (p : ℕ). eqb p r) (take i qs) || (t || false)))
+    placed s t e = rw (e, or-false) (or_last t (member first r) (any (λ (p : ℕ). eqb p r) (take i qs)))
 
 -- Two sets have a common state exactly if their meet is not empty.
 pub common_state : (set other : List ℕ) → Bounded (meet_of set other)

@@ -1,6 +1,8 @@
--- Sets of states in words, four to a set, one after the other.
-use Rattle.std.specs.Prelude.{ℕ, ◌*◌, List, take, drop}
+-- Sets of states, one after the other.
+use Rattle.std.specs.Prelude.{ℕ, List, map, get_or}
+use Rattle.sets.specs.Set.{empty_set}
+use Rattle.sets.specs.declared.set.StateSet.{StateSet}
 
--- Set e of some words.
-unfoldable pub entry_at : List ℕ → ℕ → List ℕ
-entry_at words e = take 4 (drop (4 * e) words)
+-- The words of set e of some sets; the empty set where there is none.
+unfoldable pub entry_at : List StateSet → ℕ → List ℕ
+entry_at sets e = get_or (map (λ (set : StateSet). set.words) sets) e empty_set

@@ -1,34 +1,50 @@
-// Children of a rule against a set of states.
-ghost use Rattle.std.specs.Prelude.{◌≡◌};
-ghost use Rattle.lists.specs.Lists.{all, any};
-ghost use Rattle.sets.specs.Set.{member};
+// The states of a set, rising.
+ghost use Rattle.std.specs.Prelude.{◌≡◌, ◌<◌};
+ghost use Rattle.std.specs.Iterator.{YieldsFirst, item_count};
 
-use crate::set::StateSet;
-
-// Whether all of the states are in a set.
-pub fn all_in(set: StateSet, states: &[u8]) -> bool
-    ensures { result ≡ all (member set.words) states.now }
-{
-    let mut j: usize = 0;
-    while j < states.len() {
-        if !set.has(states[j]) {
-            return false;
-        }
-        j += 1;
-    }
-    true
+// What is left of a set: the bits of `rest` stand for those of word `at`, and the words behind it are whole.
+#[derive(Debug, Drop)]
+pub struct States {
+    words: [u64; 4],
+    at: usize,
+    rest: u64,
+    ghost inside: { at < 4 },
 }
 
-// Whether one of the states is in a set.
-pub fn some_in(set: StateSet, states: &[u8]) -> bool
-    ensures { result ≡ any (member set.words) states.now }
-{
-    let mut j: usize = 0;
-    while j < states.len() {
-        if set.has(states[j]) {
-            return true;
+impl States {
+    ghost use Rattle.sets.specs.Inner.{states_in, states_left};
+
+    // All states of a set's words.
+    pub(crate) fn of(words: [u64; 4]) -> Self
+        ensures { states_left result ≡ states_in 256 words }
+    {
+        States {
+            words,
+            at: 0,
+            rest: words[0],
         }
-        j += 1;
     }
-    false
+}
+
+impl Iterator for States {
+    ghost use Rattle.sets.specs.Inner.{states_left};
+
+    type Item = u8;
+
+    ghost next_gives = { YieldsFirst states_left };
+
+    ghost remaining = { item_count states_left };
+
+    fn next(&mut self) -> Option<u8> {
+        while self.rest == 0 {
+            if self.at >= 3 {
+                return None;
+            }
+            self.at += 1;
+            self.rest = self.words[self.at];
+        }
+        let rest = self.rest;
+        self.rest = rest & (rest - 1);
+        Some((64 * self.at) as u8 + rest.trailing_zeros() as u8)
+    }
 }

@@ -1,7 +1,6 @@
 -- The answer of a check: of a refused table, of a decoded one by its automaton, by the walk over a tree, and of a tree that is read; and acceptance,
--- read off what is found. From what a decoded table holds and the subtree that is named; for `check_tree_in`, `check` and the theorems on checks.
-use Prim.Native.Nat.{ℕ, ◌+◌, ◌*◌, ◌≤◌}
-use native.Mathlib.Omega.{arith}
+-- read off what is found. From the table that is judged and the subtree that is named; for `check_tree_in`, `check` and the theorems on checks.
+use Prim.Native.Nat.{ℕ, ◌*◌, ◌≤◌}
 use mathlib.Core.Path.{◌≡◌, refl, sym, ap, ◌∙◌}
 use mathlib.Core.Logic.{◌⊎◌, inl, inr, ◌↔◌}
 use mathlib.Core.List.{List}
@@ -16,13 +15,8 @@ use Rattle.records.proofs.Fields.{Bytes}
 use Rattle.records.proofs.Reading.{refused≢found, found_same}
 use Rattle.automaton.specs.Automaton.{Automaton, WellFormed}
 use Rattle.automaton.specs.Table.{judge}
-use Rattle.automaton.specs.Decoded.{size_of, automaton_in, Decodes}
-use Rattle.automaton.specs.declared.table.Size.{Size}
-use Rattle.automaton.specs.declared.decoding.Decoded.{Decoded}
 use Rattle.automaton.proofs.Encoding.{encode_judge, table_least}
-use Rattle.automaton.proofs.Held.{Held, refused_judged}
 use Rattle.automaton.proofs.Theorems.{judged_well_formed}
-use Rattle.indexing.specs.Inner.{IndexRoom}
 use Rattle.trees.specs.Tree.{Tree, accepts}
 use Rattle.trees.specs.Postfix.{judge_tree}
 use Rattle.trees.specs.Subtree.{rejected, is_accepted, finding_in, Named}
@@ -37,23 +31,19 @@ use Rattle.trees.proofs.Theorems.{tree_walk}
 use Rattle.simulation.specs.Check.{acceptance, finding}
 
 -- The table and the tree.
-pub table_refused : (table tree : List ℕ) {r : Result Decoded Refusal} {ranks rows : List ℕ} (cause : Refusal)
-    → Decodes (judge table) r ranks rows → r ≡ Err cause → refused (number_of cause) ≡ finding table tree
+pub table_refused : (table tree : List ℕ) (cause : Refusal) → refused (number_of cause) ≡ judge table
+    → refused (number_of cause) ≡ finding table tree
 unfolding finding ◌>>=◌
-table_refused table tree cause d e = sym (rw (refused_judged table _ _ _ cause d e))
+table_refused table tree cause e = rw (← e)
 
-module _ {table : List ℕ} {size : Size} {finals ranks rows : List ℕ} (h : Held table size finals ranks rows) where
-  pub held_index_room : Bytes table → (index : List ℕ) → IndexRoom table index → 257 + size.rules ≤ length index
-  unfolding IndexRoom size_of
-  held_index_room bytes index room =
-      let few : 10 * length h.automaton.rules ≤ length table =
-      rw (encode_judge table h.automaton bytes h.judged) at (table_least h.automaton) in
-      let count = ap (λ (s : Size). s.rules) h.counts in
-      room size.rules h.rows_hold.count (omega arith)
+module _ (table : List ℕ) (A : Automaton) (e : judge table ≡ found A) where
+  -- A rule takes ten bytes at least.
+  pub few_rules : Bytes table → 10 * length A.rules ≤ length table
+  few_rules bytes = rw (encode_judge table A bytes e) at (table_least A)
 
-  pub held_finding : (tree : List ℕ) → tree_finding (automaton_in size finals ranks rows) tree ≡ finding table tree
+  pub table_found : (tree : List ℕ) → tree_finding A tree ≡ finding table tree
   unfolding tree_finding finding ◌>>=◌
-  held_finding tree = rw (h.holds, h.judged)
+  table_found tree = rw e
 
 -- The tree by the walk.
 pub finding_walks : (table tree : List ℕ) → finding table tree ≡ judge table >>= (λ (A : Automaton). walk_finding A tree)

@@ -1,4 +1,4 @@
--- The answers of the two queries, from the words that hold the relation of a table and from the rule that has no match: for `relate`, `compare`
+-- The answers of the two queries, from the rows that hold the relation of a table and from the rule that has no match: for `relate`, `compare`
 -- and the theorems on them.
 use Prim.Native.Nat.{ℕ, ◌+◌, ◌*◌, ◌/◌, ◌%◌, ◌^◌, ◌≤◌, ◌<◌}
 use mathlib.Core.Path.{◌≡◌, refl, sym, ap, subst, ◌∙◌}
@@ -11,9 +11,11 @@ use lib.Dec.{eqb, ltb}
 use borrow.Author.Tests.{eq-eqb, eqb-true, lt-ltb, le-ltb, not-false}
 use Rattle.lists.specs.Lists.{Distinct, from}
 use Rattle.lists.specs.Over.{over}
+use Rattle.lists.proofs.Elements.{all_member}
 use Rattle.lists.proofs.Ranges.{length_from, from_distinct}
 use Rattle.lists.proofs.Booleans.{and_true_in, and_false_left, and_false_right, or_false_out}
 use Rattle.lists.proofs.Search.{all_in}
+use Rattle.sets.specs.declared.set.StateSet.{StateSet}
 use Rattle.sets.proofs.StateSets.{bit}
 use Rattle.std.specs.Prelude.{Option, Ok, Err, Some, None}
 use Rattle.records.specs.Answers.{reading_of}
@@ -23,28 +25,35 @@ use Rattle.records.specs.declared.refusal.Refusal.{Refusal}
 use Rattle.records.specs.declared.refusal.Refusal.TheVariants.{UnknownState, ShortOutput}
 use Rattle.records.proofs.Buffers.{room_enough, room_short}
 use Rattle.automaton.specs.Automaton.{Rule, Automaton, WellFormed}
-use Rattle.automaton.specs.Row.{rule_at, rules_in}
+use Rattle.automaton.specs.Decoded.{size_of}
+use Rattle.automaton.specs.Row.{rule_at}
 use Rattle.automaton.specs.Table.{judge}
+use Rattle.automaton.specs.declared.table.Size.{Size}
 use Rattle.automaton.proofs.Rows.{rules_at, rules_each, rule_in_lem}
-use Rattle.refinement.specs.Simulation.{Relation, related, matched, relation, survives}
-use Rattle.refinement.specs.Inner.{relation_in, Simulable, answered}
+use Rattle.refinement.specs.Simulation.{Relation, related, relation, survives}
+use Rattle.refinement.specs.Inner.{relation_in, answered}
 use Rattle.refinement.proofs.Pairs.{pairs_in, survives_related, relation_length, relation_distinct}
 use Rattle.simulation.specs.Query.{simulation_of, rounds_of, relation_bytes, relation_query, relation_after}
 use Rattle.simulation.specs.Query.{compared_by, comparison_of, is_yes, rule, pair_query, Unmatched, Compares}
-use Rattle.simulation.specs.Inner.{bytes_of, ones_of, FirstUnmatched, ComparedBy}
-use Rattle.simulation.proofs.RelationBytes.{bytes_rows, length_rows, rows_bit, ones_pairs}
-use Rattle.simulation.proofs.Preorder.{below_member, member_below, preorder_states}
+use Rattle.simulation.specs.Inner.{bytes_of, pairs_of, FirstUnmatched, ComparedBy}
+use Rattle.simulation.proofs.RelationBytes.{bytes_rows, length_rows, rows_bit, pairs_rows}
+use Rattle.simulation.proofs.Preorder.{below_member, preorder_states}
 
--- The targets of rules that name the states below n alone.
-pub target_below : (rows : List ℕ) (k n : ℕ) → Simulable (rules_in rows k) (from 0 n) → (i : ℕ) → i < k → (rule_at rows i).target < n
-target_below rows k n s i h = member_below n _ (s.targets _ (rule_in_lem rows k i h))
+-- The states that a table counts.
+pub states_of : (A : Automaton) (size : Size) → size ≡ size_of A → size.states ≡ A.states
+unfolding size_of
+states_of A size is = ap (λ (s : Size). s.states) is
+
+-- The targets of the rules are states.
+pub target_below : (A : Automaton) → WellFormed A → (i : ℕ) → i < length A.rules → (rule_at A.rules i).target < A.states
+target_below A w i h = (all_member w.rules (rule_in_lem A.rules i h)).target
 
 -- The relation query.
 
-pub query_refused : (b out : List ℕ) (cause : Refusal) → judge b ≡ refused (number_of cause)
+pub query_refused : (b out : List ℕ) (cause : Refusal) → refused (number_of cause) ≡ judge b
     → (reading_of (Err cause) ≡ relation_query b out) × (out ≡ relation_after (judge b) out)
 unfolding reading_of relation_query relation_after ◌>>=◌
-query_refused b out cause e = rw e (refl, refl)
+query_refused b out cause e = rw (← e) (refl, refl)
 
 pub relation_once : (A : Automaton) → Distinct (simulation_of A)
 unfolding simulation_of
@@ -62,15 +71,15 @@ module _ (A : Automaton) (w : WellFormed A) where
       let e = rows_bit (simulation_of A) A.states q r h l in
       (λ one. sym e ∙ eq-eqb _ 1 one, λ t. eqb-true _ 1 (e ∙ t))
 
-  -- The words that hold the relation.
-  module _ (words : List ℕ) (is : relation_in words ≡ simulation_of A) where
-    bytes_are : bytes_of words (32 * A.states) ≡ relation_bytes A
+  -- The rows that hold the relation.
+  module _ (rows : List StateSet) (is : relation_in rows ≡ simulation_of A) where
+    bytes_are : bytes_of rows A.states ≡ relation_bytes A
     unfolding relation_bytes
-    bytes_are = bytes_rows words A.states w.states ∙ rw is
+    bytes_are = bytes_rows rows A.states w.states ∙ rw is
 
-    pairs_are : ones_of words (4 * A.states) ≡ length (simulation_of A)
+    pairs_are : pairs_of rows A.states ≡ length (simulation_of A)
     pairs_are =
-        ones_pairs words A.states w.states (λ q r h. rw is (go q r h (related (simulation_of A) q r) refl))
+        pairs_rows rows A.states w.states (λ q r h. rw is (go q r h (related (simulation_of A) q r) refl))
         ∙ ap (λ (R : Relation). pairs_in (related R) (from 0 A.states) (from 0 A.states)) is
         ∙ sym counted
       where
@@ -94,46 +103,46 @@ module _ (b out : List ℕ) (A : Automaton) (w : WellFormed A) (e : judge b ≡ 
   unfolding relation_query ◌>>=◌ ◌>>◌
   query_found h = rw (e, (room_enough (relation_bytes A) out (rw (length_bytes A w) h)).0)
 
-  pub query_written : (words after : List ℕ) (count pairs : ℕ) → 32 * A.states ≤ length out
-      → relation_in words ≡ simulation_of A → count ≡ rounds_of A
-      → after ≡ over out 0 (bytes_of words (32 * A.states)) → pairs ≡ ones_of words (4 * A.states)
+  pub query_written : (rows : List StateSet) (after : List ℕ) (count pairs : ℕ) → 32 * A.states ≤ length out
+      → relation_in rows ≡ simulation_of A → count ≡ rounds_of A
+      → after ≡ over out 0 (bytes_of rows A.states) → pairs ≡ pairs_of rows A.states
       → (reading_of (Ok (record { rounds = count; pairs = pairs })) ≡ relation_query b out) × (after ≡ relation_after (judge b) out)
   unfolding reading_of relation_after
-  query_written words after count pairs h f g o p =
+  query_written rows after count pairs h f g o p =
       let enough = room_enough (relation_bytes A) out (rw (length_bytes A w) h) in (
-        rw (query_found h, g, p, pairs_are A w words f),
-        rw (e, enough.1, o, bytes_are A w words f),
+        rw (query_found h, g, p, pairs_are A w rows f),
+        rw (e, enough.1, o, bytes_are A w rows f),
       )
 
 -- The pair query.
 
-pub compares_refused : (b : List ℕ) (q r : ℕ) (cause : Refusal) → judge b ≡ refused (number_of cause)
+pub compares_refused : (b : List ℕ) (q r : ℕ) (cause : Refusal) → refused (number_of cause) ≡ judge b
     → Compares b q r (Err cause)
 unfolding comparison_of compared_by reading_of is_yes map_read pair_query ◌>>=◌
 compares_refused b q r cause e = record {
-  verdict = rw e;
+  verdict = rw (← e);
   unmatched = λ A f i g. absurd (let z : ◌≡◌ {A = ℕ} 0 1 = cc in omega arith);
 }
 
 -- The relation of rules on the states below n, and two of these states.
-module _ (rows : List ℕ) (k n q r : ℕ) (hq : q < n) (hr : r < n) where
+module _ (rules : List Rule) (n q r : ℕ) (hq : q < n) (hr : r < n) where
   abbrev largest : Relation
-  largest = relation (rules_in rows k) (from 0 n)
+  largest = relation rules (from 0 n)
 
   -- Were every rule of q matched, the pair would be in the relation.
-  all_answered : ((j : ℕ) → j < k → answered (rules_in rows k) largest q r (rule_at rows j) ≡ true) → related largest q r ≡ true
+  all_answered : ((j : ℕ) → j < length rules → answered rules largest q r (rule_at rules j) ≡ true) → related largest q r ≡ true
   unfolding survives
   all_answered each =
-      let survive : survives (rules_in rows k) largest (q, r) ≡ true = all_in _ (rules_in rows k) (rules_each _ rows k each) in
-      survives_related (rules_in rows k) (from 0 n) q r (below_member n q hq) (below_member n r hr) survive
+      let survive : survives rules largest (q, r) ≡ true = all_in _ rules (rules_each _ rules each) in
+      survives_related rules (from 0 n) q r (below_member n q hq) (below_member n r hr) survive
 
   -- So outside the relation there is a rule without a match.
-  pub first_answers : (a : Option ℕ) → related largest q r ≡ false → FirstUnmatched rows k largest q r a → ComparedBy rows k largest q r a
+  pub first_answers : (a : Option ℕ) → related largest q r ≡ false → FirstUnmatched rules largest q r a → ComparedBy rules largest q r a
   unfolding is_yes compared_by
   first_answers None out first = absurd (false≢true (sym out ∙ (unfold FirstUnmatched in all_answered first)))
   first_answers (Some i) out first = record {
     verdict = sym out;
-    first = λ j e. subst (FirstUnmatched rows k largest q r) e first;
+    first = λ j e. subst (FirstUnmatched rules largest q r) e first;
   }
 
 module _ (b : List ℕ) (q r : ℕ) (A : Automaton) (e : judge b ≡ found A) where
@@ -156,28 +165,27 @@ module _ (b : List ℕ) (q r : ℕ) (A : Automaton) (e : judge b ≡ found A) wh
     unfolding pair_query ◌>>=◌ ◌>>◌ check
     pair_found = rw (e, inside)
 
-    module _ (rows : List ℕ) (k : ℕ) (is : rules_in rows k ≡ A.rules) where
-      unmatched_rule : (i : ℕ) → FirstUnmatched rows k (simulation_of A) q r (Some i) → Unmatched A q r i
-      unfolding FirstUnmatched
-      unmatched_rule i first =
-          let s = or_false_out (not (eqb (rule_at rows i).target q)) _ first.1.0 in
-          record {
-            rule = rule_at rows i;
-            behind = drop (i + 1) (rules_in rows k);
-            number = rw (← is) (rules_at rows k i first.0);
-            target = eqb-true (rule_at rows i).target q (not-false _ s.0);
-            unmatched = ap (λ (rules : List Rule). matched rules (simulation_of A) r (rule_at rows i)) (sym is) ∙ s.1;
-          }
+    unmatched_rule : (i : ℕ) → FirstUnmatched A.rules (simulation_of A) q r (Some i) → Unmatched A q r i
+    unfolding FirstUnmatched
+    unmatched_rule i first =
+        let s = or_false_out (not (eqb (rule_at A.rules i).target q)) _ first.1.0 in
+        record {
+          rule = rule_at A.rules i;
+          behind = drop (i + 1) A.rules;
+          number = rules_at A.rules i first.0;
+          target = eqb-true (rule_at A.rules i).target q (not-false _ s.0);
+          unmatched = s.1;
+        }
 
-      pub compares_by : (a : Option ℕ) → ComparedBy rows k (simulation_of A) q r a → Compares b q r (Ok a)
-      unfolding comparison_of compared_by reading_of is_yes map_read
-      compares_by a c = record {
-        verdict = ap found c.verdict ∙ sym pair_found;
-        unmatched = λ B g i f.
-            let same : A ≡ B = cc in
-            rw (← same) (unmatched_rule i (c.first i (some_of a f)));
-      }
-        where
-          some_of : (a : Option ℕ) {i : ℕ} → found (compared_by a) ≡ found (rule i) → a ≡ Some i
-          some_of None f = absurd (let z : ◌≡◌ {A = ℕ} 0 1 = cc in omega arith)
-          some_of (Some j) f = cc
+    pub compares_by : (a : Option ℕ) → ComparedBy A.rules (simulation_of A) q r a → Compares b q r (Ok a)
+    unfolding comparison_of compared_by reading_of is_yes map_read
+    compares_by a c = record {
+      verdict = ap found c.verdict ∙ sym pair_found;
+      unmatched = λ B g i f.
+          let same : A ≡ B = cc in
+          rw (← same) (unmatched_rule i (c.first i (some_of a f)));
+    }
+      where
+        some_of : (a : Option ℕ) {i : ℕ} → found (compared_by a) ≡ found (rule i) → a ≡ Some i
+        some_of None f = absurd (let z : ◌≡◌ {A = ℕ} 0 1 = cc in omega arith)
+        some_of (Some j) f = cc

@@ -1,31 +1,36 @@
--- A relation in words: a bit is a pair, the words' bytes are the rows, and the bits that are set are the pairs. From the laws of bits; for
+-- A relation in rows of sets: the rows' bytes are the relation's, and their states are its pairs. From the laws of bits; for
 -- `Queries` and the functions that write rows and count pairs.
 use Prim.Native.Nat.{ℕ, zero, suc, ◌+◌, ◌-◌, ◌*◌, ◌/◌, ◌%◌, ◌^◌, ◌≤◌, ◌<◌}
 use mathlib.Core.Path.{◌≡◌, refl, sym, ap, ap₂, ◌∙◌}
-use mathlib.Core.List.{List, [], ◌∷◌, ◌++◌, map, map-append}
+use mathlib.Core.List.{List, [], ◌∷◌, ◌++◌, map, append-nil, append_assoc}
 use mathlib.Core.Bool.{Bool, true, false, cond}
 use native.Mathlib.Nat.{add-zero, add-suc, suc-add, zero-add, add_assoc}
-use native.Mathlib.Numerals.{add-one, add-two, add-three}
+use native.Mathlib.Numerals.{add-one}
 use native.Mathlib.Omega.{arith}
-use lib.ListN.{length, get_or, length-append, length-map, get_or-append}
+use lib.ListN.{length, take, get_or, length-append, length-map, get_or-append}
 use lib.Seq.{get_or-append-add}
 use lib.Dec.{eqb}
-use lib.Pow.{mod-pow-add, shr-shr, shr_lt}
-use lib.Count.{ones, ones_step}
+use lib.Pow.{mod-pow-add, shr-shr}
+use Rattle.std.specs.List.{sum_by}
+use Rattle.std.proofs.lemmas.List.Sums.{sum_by-cons}
 use borrow.Author.Tests.{eq-eqb, ne_eqb, eqb-true, eqb-false}
 use Rattle.lists.specs.Lists.{from, keep}
 use Rattle.lists.specs.Over.{over}
 use Rattle.lists.proofs.Ranges.{from_step, length_from, from_append, each_from}
-use Rattle.lists.proofs.Overwriting.{over_then, kept_few}
+use Rattle.lists.proofs.Overwriting.{over_then}
 use Rattle.lists.proofs.Mapping.{map_shifted}
-use Rattle.lists.proofs.Keeping.{keep_none, keep_append, keep_map}
-use Rattle.sets.proofs.StateSets.{bit, bit_suc}
+use Rattle.lists.proofs.Keeping.{keep_none, keep_append, keep_agree, keep_shorter}
+use Rattle.sets.specs.Set.{member, empty_set}
+use Rattle.sets.specs.Entries.{entry_at}
+use Rattle.sets.specs.Inner.{states_in, set_byte, set_bytes}
+use Rattle.sets.specs.declared.set.StateSet.{StateSet}
+use Rattle.sets.proofs.StateSets.{bit, bit_suc, member_empty}
 use Rattle.refinement.specs.Simulation.{Relation, related}
 use Rattle.refinement.specs.Inner.{relation_in}
 use Rattle.refinement.proofs.Pairs.{pairs_in}
-use Rattle.refinement.proofs.RelationRows.{pair_bit}
+use Rattle.refinement.proofs.RelationRows.{related_in}
 use Rattle.simulation.specs.Query.{bits_from, row_bytes, relation_rows}
-use Rattle.simulation.specs.Inner.{byte_of, bytes_of, ones_in, ones_of}
+use Rattle.simulation.specs.Inner.{bytes_of, pairs_of}
 
 -- The lowest bits of a number.
 
@@ -50,36 +55,11 @@ low_bits R q (suc n) r x h =
     let split : x % 2 ^ (n + 1) ≡ x / 2 ^ 1 % 2 ^ n * 2 ^ 1 + x % 2 ^ 1 = mod-pow-add x n 1 in
     ap (λ (m : ℕ). x % 2 ^ m) (sym (add-one n)) ∙ split ∙ omega arith
 
--- Bits that are set.
-
-ones_bits : (test : ℕ → Bool) (n r x : ℕ) → x < 2 ^ n → ((k : ℕ) → k < n → bit x k ≡ test (r + k))
-    → ones x ≡ length (keep test (from r n))
-unfolding keep from bit ones
-ones_bits test zero r x h same = let none : x ≡ 0 = omega arith in rw none
-ones_bits test (suc n) r x h same =
-    ones_step x ∙ go (test r) (digit (test r) (x / 2 ^ 0 % 2) (omega arith) (same 0 (omega arith) ∙ ap test (add-zero r)))
-    (ones_bits test n (suc r) (x / 2) (shr_lt n 1 (rw (add-one) h))
-    (λ k l. sym (bit_suc x k) ∙ same (suc k) (omega arith) ∙ ap test (omega arith)))
-  where
-    go : (t : Bool) → x / 2 ^ 0 % 2 ≡ cond t 1 0 → ones (x / 2) ≡ length (keep test (from (suc r) n))
-        → x % 2 + ones (x / 2) ≡ length (cond t (r ∷ keep test (from (suc r) n)) (keep test (from (suc r) n)))
-    go true d later = omega arith
-    go false d later = omega arith
-
-pub ones_is : (w : ℕ) → w < 2 ^ 64 → ones w ≡ ones_in w
-unfolding ones_in bit
-ones_is w h = ones_bits (bit w) 64 0 w h (λ k l. ap (bit w) (sym (zero-add k)))
-
-pub ones_few : (w : ℕ) → ones_in w ≤ 64
-unfolding ones_in
-ones_few w = kept_few _ 64
+-- Rows and pairs.
 
 length_keep_append : (test : ℕ → Bool) (i a b : ℕ)
     → length (keep test (from i (a + b))) ≡ length (keep test (from i a)) + length (keep test (from (i + a) b))
 length_keep_append test i a b = rw (from_append, keep_append, length-append)
-
-count_kept : (test : ℕ → Bool) (xs : List ℕ) → length (keep test xs) ≡ length (keep (λ (t : Bool). t) (map test xs))
-count_kept test xs = rw (keep_map, length-map)
 
 map_at : (f : ℕ → ℕ) (n a j : ℕ) → j < n → get_or (map f (from a n)) j 0 ≡ f (a + j)
 unfolding from
@@ -92,72 +72,53 @@ unfolding pairs_in
 pairs_append f [] qs rs = sym (zero-add (pairs_in f qs rs))
 pairs_append f (p ∷ ps) qs rs = rw (pairs_append f ps qs rs, add_assoc)
 
-module _ (words : List ℕ) where
+rows_append : (R : Relation) (ps qs : List ℕ) → relation_rows R (ps ++ qs) ≡ relation_rows R ps ++ relation_rows R qs
+unfolding relation_rows
+rows_append R [] qs = refl
+rows_append R (p ∷ ps) qs = rw (rows_append R ps qs, append_assoc)
+
+module _ (rows : List StateSet) where
   abbrev R : Relation
-  R = relation_in words
+  R = relation_in rows
 
-  word_bit : (q j s : ℕ) → q < 256 → j < 4 → s < 64 → bit (get_or words (4 * q + j) 0) s ≡ related R q (64 * j + s)
-  unfolding bit
-  word_bit q j s h k l =
-      let word : (64 * j + s) / 64 ≡ j = omega arith in
-      let place : (64 * j + s) % 64 ≡ s = omega arith in
-      rw (word, place) at (pair_bit words q (64 * j + s) h (omega arith))
+  set_bit : (q r : ℕ) → q < 256 → r < 256 → bit (get_or (entry_at rows q) (r / 64) 0) (r % 64) ≡ related R q r
+  unfolding bit member
+  set_bit q r h l = sym (related_in rows q r h l)
 
-  byte_is : (q i : ℕ) → q < 256 → i < 32 → byte_of words (32 * q + i) ≡ bits_from R q (8 * i) 8
-  unfolding byte_of
+  byte_is : (q i : ℕ) → q < 256 → i < 32 → set_byte (entry_at rows q) i ≡ bits_from R q (8 * i) 8
+  unfolding set_byte
   byte_is q i h l =
-      let word : (32 * q + i) / 8 ≡ 4 * q + i / 8 = omega arith in
-      let place : (32 * q + i) % 8 ≡ i % 8 = omega arith in
-      rw (word, place)
-      (low_bits R q 8 (8 * i) (get_or words (4 * q + i / 8) 0 / 2 ^ (8 * (i % 8)))
-      (λ k b. bit_shifted (get_or words (4 * q + i / 8) 0) (8 * (i % 8)) k
-      ∙ word_bit q (i / 8) (8 * (i % 8) + k) h (omega arith) (omega arith) ∙ ap (related R q) (omega arith)))
+      low_bits R q 8 (8 * i) (get_or (entry_at rows q) (i / 8) 0 / 2 ^ (8 * (i % 8)))
+      (λ k b.
+      let word : (8 * i + k) / 64 ≡ i / 8 = omega arith in
+      let place : (8 * i + k) % 64 ≡ 8 * (i % 8) + k = omega arith in
+      let is : bit (get_or (entry_at rows q) (i / 8) 0) (8 * (i % 8) + k) ≡ related R q (8 * i + k) =
+      rw (word, place) at (set_bit q (8 * i + k) h (omega arith)) in
+      bit_shifted (get_or (entry_at rows q) (i / 8) 0) (8 * (i % 8)) k ∙ is)
 
-  rows_bytes : (n q : ℕ) → q + n ≤ 256 → map (byte_of words) (from (32 * q) (32 * n)) ≡ relation_rows R (from q n)
-  unfolding relation_rows row_bytes from
-  rows_bytes zero q h = refl
-  rows_bytes (suc n) q h =
-      let more : 32 * suc n ≡ 32 + 32 * n = omega arith in
-      let next : 32 * q + 32 ≡ 32 * suc q = omega arith in
-      rw (more, from_append, map-append, next) (ap₂ ◌++◌
-      (map_shifted (byte_of words) (λ (i : ℕ). bits_from R q (8 * i) 8) (32 * q) 0 32 (λ i l. rw zero-add (byte_is q i (omega arith) l)))
-      (rows_bytes n (suc q) (omega arith)))
+  row_is : (q : ℕ) → q < 256 → set_bytes (entry_at rows q) ≡ row_bytes R q
+  unfolding set_bytes row_bytes
+  row_is q h =
+      map_shifted (set_byte (entry_at rows q)) (λ (i : ℕ). bits_from R q (8 * i) 8) 0 0 32
+      (λ i l. rw zero-add (byte_is q i h l))
 
-  pub bytes_rows : (n : ℕ) → n ≤ 256 → bytes_of words (32 * n) ≡ relation_rows R (from 0 n)
+  pub bytes_rows : (n : ℕ) → n ≤ 256 → bytes_of rows n ≡ relation_rows R (from 0 n)
   unfolding bytes_of
-  bytes_rows n h = rows_bytes n 0 (omega arith)
+  bytes_rows zero h = unfold from relation_rows in refl
+  bytes_rows (suc n) h =
+      ap₂ ◌++◌ (bytes_rows n (omega arith)) (row_is n (omega arith))
+      ∙ rw (← add-one n, from_step, rows_append, zero-add) (unfold relation_rows in rw append-nil refl)
 
-  ones_word : (q j : ℕ) → q < 256 → j < 4 → ones_in (get_or words (4 * q + j) 0) ≡ length (keep (related R q) (from (64 * j) 64))
-  unfolding ones_in bit
-  ones_word q j h l =
-      let w = get_or words (4 * q + j) 0 in
-      count_kept (bit w) (from 0 64)
-      ∙ ap (λ (ts : List Bool). length (keep (λ (t : Bool). t) ts))
-      (map_shifted (bit w) (related R q) 0 (64 * j) 64 (λ k b. ap (bit w) (zero-add k) ∙ word_bit q j k h l b))
-      ∙ sym (count_kept (related R q) (from (64 * j) 64))
+  row_pairs : (q : ℕ) → q < 256 → length (states_in 256 (entry_at rows q)) ≡ length (keep (related R q) (from 0 256))
+  unfolding states_in
+  row_pairs q h =
+      ap length (keep_agree _ _ (from 0 256) (each_from _ 0 256 (λ r a b. sym (related_in rows q r h (omega arith)))))
 
-  ones_row : (q : ℕ) → q < 256 → ones_of words (4 * suc q) ≡ ones_of words (4 * q) + length (keep (related R q) (from 0 256))
-  unfolding ones_of
-  ones_row q h =
-      let four : 4 * suc q ≡ suc (suc (suc (suc (4 * q)))) = omega arith in
-      rw (four, ← add-three (4 * q), ← add-two (4 * q), ← add-one (4 * q))
-      (omega (
-        arith,
-        rw add-zero at (ones_word q 0 h (omega arith)),
-        ones_word q 1 h (omega arith),
-        ones_word q 2 h (omega arith),
-        ones_word q 3 h (omega arith),
-        length_keep_append (related R q) 0 64 192,
-        length_keep_append (related R q) 64 64 128,
-        length_keep_append (related R q) 128 64 64,
-      ))
-
-  ones_rows : (n : ℕ) → n ≤ 256 → ones_of words (4 * n) ≡ pairs_in (related R) (from 0 n) (from 0 256)
-  unfolding pairs_in ones_of
-  ones_rows zero h = unfold from in refl
-  ones_rows (suc n) h =
-      ones_row n (omega arith)
-      ∙ rw (ones_rows n (omega arith), ← add-one n, from_step, pairs_append, zero-add, add-zero)
+  all_rows : (n : ℕ) → n ≤ 256 → pairs_of rows n ≡ pairs_in (related R) (from 0 n) (from 0 256)
+  unfolding pairs_in pairs_of
+  all_rows zero h = unfold from in refl
+  all_rows (suc n) h =
+      rw (all_rows n (omega arith), row_pairs n (omega arith), ← add-one n, from_step, pairs_append, zero-add, add-zero)
 
   columns_below : (qs : List ℕ) (n : ℕ) → n ≤ 256 → ((q r : ℕ) → n ≤ r → related R q r ≡ false)
       → pairs_in (related R) qs (from 0 256) ≡ pairs_in (related R) qs (from 0 n)
@@ -170,9 +131,37 @@ module _ (words : List ℕ) where
       at (length_keep_append (related R q) 0 n (256 - n)) in
       rw (few, add-zero, columns_below qs n h low)
 
-  pub ones_pairs : (n : ℕ) → n ≤ 256 → ((q r : ℕ) → n ≤ r → related R q r ≡ false)
-      → ones_of words (4 * n) ≡ pairs_in (related R) (from 0 n) (from 0 n)
-  ones_pairs n h low = ones_rows n h ∙ columns_below (from 0 n) n h low
+  pub pairs_rows : (n : ℕ) → n ≤ 256 → ((q r : ℕ) → n ≤ r → related R q r ≡ false)
+      → pairs_of rows n ≡ pairs_in (related R) (from 0 n) (from 0 n)
+  pairs_rows n h low = all_rows n h ∙ columns_below (from 0 n) n h low
+
+-- The pairs of the first rows, summed from the first row on, and a bound on them.
+
+abbrev pub states_count : StateSet → ℕ
+states_count set = length (states_in 256 set.words)
+
+pairs_first : (row : StateSet) (rows : List StateSet) (n : ℕ) → pairs_of (row ∷ rows) (suc n) ≡ states_count row + pairs_of rows n
+unfolding pairs_of entry_at
+pairs_first row rows zero = omega arith
+pairs_first row rows (suc n) = rw (pairs_first row rows n, add_assoc) refl
+
+pairs_none : (n : ℕ) → pairs_of [] n ≡ 0
+unfolding pairs_of entry_at states_in
+pairs_none zero = refl
+pairs_none (suc n) = rw (pairs_none n, keep_none (member empty_set) (from 0 256) (each_from _ 0 256 (λ q a b. member_empty q b))) refl
+
+pub pairs_summed : (rows : List StateSet) (n : ℕ) → pairs_of rows n ≡ sum_by states_count (take n rows)
+pairs_summed rows zero = unfold pairs_of in refl
+pairs_summed [] (suc n) = pairs_none (suc n)
+pairs_summed (row ∷ rows) (suc n) =
+    pairs_first row rows n ∙ ap (λ (m : ℕ). states_count row + m) (pairs_summed rows n)
+    ∙ sym (sum_by-cons states_count row (take n rows))
+
+pub pairs_few : (rows : List StateSet) (n : ℕ) → pairs_of rows n ≤ 256 * n
+unfolding pairs_of states_in
+pairs_few rows zero = omega arith
+pairs_few rows (suc n) =
+    omega (arith, pairs_few rows n, keep_shorter (member (entry_at rows n)) (from 0 256), length_from 0 256)
 
 -- The rows of any relation.
 
@@ -219,30 +208,28 @@ module _ (R : Relation) where
       rw (rows_at n 0 q (r / 8) h (omega arith), zero-add)
       (bits_bit 8 q (8 * (r / 8)) (r % 8) (omega arith) ∙ ap (related R q) (omega arith))
 
--- The bytes of the words, and a turn of the loop that writes them.
+-- The bytes of the first rows, and a turn of the loop that writes them.
 
-pub length_bytes : (ws : List ℕ) (i : ℕ) → length (bytes_of ws i) ≡ i
+pub length_set : (set : List ℕ) → length (set_bytes set) ≡ 32
+unfolding set_bytes
+length_set set = length-map (from 0 32) (set_byte set) ∙ length_from 0 32
+
+pub length_bytes : (rows : List StateSet) (n : ℕ) → length (bytes_of rows n) ≡ 32 * n
 unfolding bytes_of
-length_bytes ws i = length-map (from 0 i) (byte_of ws) ∙ length_from 0 i
+length_bytes rows zero = refl
+length_bytes rows (suc n) = rw (length-append, length_bytes rows n, length_set) (omega arith)
 
-word_bytes : (ws : List ℕ) (i : ℕ) → bytes_of ws (8 * i) ++ bytes_of (get_or ws i 0 ∷ []) 8 ≡ bytes_of ws (8 * (i + 1))
-unfolding bytes_of byte_of
-word_bytes ws i =
-    let more : 8 * (i + 1) ≡ 8 * i + 8 = omega arith in
-    rw (more, from_append, map-append)
-    (ap (λ (l : List ℕ). map (byte_of ws) (from 0 (8 * i)) ++ l)
-    (sym (map_shifted (byte_of ws) (byte_of (get_or ws i 0 ∷ [])) (0 + 8 * i) 0 8 (λ j h. same j h))))
-  where
-    same : (j : ℕ) → j < 8 → byte_of ws (0 + 8 * i + j) ≡ byte_of (get_or ws i 0 ∷ []) (0 + j)
-    same j h =
-        let word : (0 + 8 * i + j) / 8 ≡ i = omega arith in
-        let byte : (0 + 8 * i + j) % 8 ≡ (0 + j) % 8 = omega arith in
-        let first : (0 + j) / 8 ≡ 0 = omega arith in
-        rw (word, byte, first)
+-- The rows before n are those of all rows.
+pub entry_taken : (rows : List StateSet) (n q : ℕ) → q < n → entry_at (take n rows) q ≡ entry_at rows q
+unfolding entry_at
+entry_taken rows zero q h = absurd (omega arith)
+entry_taken [] (suc n) q h = refl
+entry_taken (row ∷ rows) (suc n) zero h = refl
+entry_taken (row ∷ rows) (suc n) (suc q) h = entry_taken rows n q (omega arith)
 
-pub word_next : (out ws now : List ℕ) (i : ℕ) (next : List ℕ) → now ≡ over out 0 (bytes_of ws (8 * i))
-    → next ≡ over now (8 * i) (bytes_of (get_or ws i 0 ∷ []) 8) → 8 * i + 8 ≤ length out → next ≡ over out 0 (bytes_of ws (8 * (i + 1)))
-word_next out ws now i next e f room =
-    over_then out 0 (bytes_of ws (8 * i)) now (8 * i) (bytes_of (get_or ws i 0 ∷ []) 8) next e f (omega (arith, length_bytes ws (8 * i)))
-    (omega (arith, length_bytes (get_or ws i 0 ∷ []) 8))
-    ∙ ap (over out 0) (word_bytes ws i)
+pub bytes_next : (out : List ℕ) (rows : List StateSet) (now : List ℕ) (i : ℕ) (next : List ℕ) → now ≡ over out 0 (bytes_of rows i)
+    → next ≡ over now (32 * i) (set_bytes (entry_at rows i)) → 32 * i + 32 ≤ length out → next ≡ over out 0 (bytes_of rows (i + 1))
+bytes_next out rows now i next e f room =
+    over_then out 0 (bytes_of rows i) now (32 * i) (set_bytes (entry_at rows i)) next e f (omega (arith, length_bytes rows i))
+    (omega (arith, length_set (entry_at rows i)))
+    ∙ rw add-one (unfold bytes_of in refl)

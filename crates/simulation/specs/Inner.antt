@@ -1,35 +1,33 @@
 -- What the contracts of inner functions cite; no call for everybody cites any of it. Places that an
 -- array does not have, where `get_or` would give its default, are ruled out by the bounds in the contracts that cite these.
-use Rattle.std.specs.Prelude.{ℕ, zero, suc, ◌+◌, ◌*◌, ◌/◌, ◌%◌, ◌^◌, ◌<◌, ◌≡◌, List, map, true, false, length, get_or, eqb}
-use Rattle.lists.specs.Lists.{from, keep}
-use Rattle.automaton.specs.Row.{rule_at, rules_in}
+use Rattle.std.specs.Prelude.{ℕ, zero, suc, ◌+◌, ◌<◌, ◌≡◌, List, [], ◌++◌, true, false, length}
+use Rattle.std.specs.Prelude.{Option, Some, None}
+use Rattle.sets.specs.Entries.{entry_at}
+use Rattle.sets.specs.Inner.{states_in, set_bytes}
+use Rattle.sets.specs.declared.set.StateSet.{StateSet}
+use Rattle.automaton.specs.Automaton.{Rule}
+use Rattle.automaton.specs.Row.{rule_at}
 use Rattle.refinement.specs.Simulation.{Relation, related}
 use Rattle.refinement.specs.Inner.{answered}
-use Rattle.std.specs.Prelude.{Option, Some, None}
 use Rattle.simulation.specs.Query.{is_yes, compared_by}
 
--- The first n bytes of 64-bit words, each word's lowest byte first.
-unfoldable pub byte_of : List ℕ → ℕ → ℕ
-byte_of words i = get_or words (i / 8) 0 / 2 ^ (8 * (i % 8)) % 256
+-- The bytes of the first n rows of a relation.
+unfoldable pub bytes_of : List StateSet → ℕ → List ℕ
+bytes_of rows zero = []
+bytes_of rows (suc n) = bytes_of rows n ++ set_bytes (entry_at rows n)
 
-unfoldable pub bytes_of : List ℕ → ℕ → List ℕ
-bytes_of words n = map (byte_of words) (from 0 n)
+-- How many pairs the first n rows hold.
+unfoldable pub pairs_of : List StateSet → ℕ → ℕ
+pairs_of rows zero = 0
+pairs_of rows (suc n) = pairs_of rows n + length (states_in 256 (entry_at rows n))
 
--- How many bits are set in a 64-bit word, and in the first n words.
-unfoldable pub ones_in : ℕ → ℕ
-ones_in w = length (keep (λ (s : ℕ). eqb (w / 2 ^ s % 2) 1) (from 0 64))
-
-unfoldable pub ones_of : List ℕ → ℕ → ℕ
-ones_of words zero = 0
-ones_of words (suc n) = ones_of words n + ones_in (get_or words n 0)
-
--- Of k rules in rows, number i is the first rule of q that no rule of r matches; or there is none, and each has a match.
-unfoldable pub FirstUnmatched : List ℕ → ℕ → Relation → ℕ → ℕ → Option ℕ → Type 0
-FirstUnmatched rows k R q r None = (j : ℕ) → j < k → answered (rules_in rows k) R q r (rule_at rows j) ≡ true
-FirstUnmatched rows k R q r (Some i) = (i < k) × ((answered (rules_in rows k) R q r (rule_at rows i) ≡ false)
-    × ((j : ℕ) → j < i → answered (rules_in rows k) R q r (rule_at rows j) ≡ true))
+-- Number i is the first rule of q that no rule of r matches; or there is none, and each has a match.
+unfoldable pub FirstUnmatched : List Rule → Relation → ℕ → ℕ → Option ℕ → Type 0
+FirstUnmatched rules R q r None = (j : ℕ) → j < length rules → answered rules R q r (rule_at rules j) ≡ true
+FirstUnmatched rules R q r (Some i) = (i < length rules) × ((answered rules R q r (rule_at rules i) ≡ false)
+    × ((j : ℕ) → j < i → answered rules R q r (rule_at rules j) ≡ true))
 
 -- An answer on q and r: yes if q is related to r, and otherwise that number.
-pub record ComparedBy (rows : List ℕ) (k : ℕ) (R : Relation) (q r : ℕ) (answer : Option ℕ) : Type 0 where
+pub record ComparedBy (rules : List Rule) (R : Relation) (q r : ℕ) (answer : Option ℕ) : Type 0 where
   pub verdict : is_yes (compared_by answer) ≡ related R q r
-  pub first : (i : ℕ) → answer ≡ Some i → FirstUnmatched rows k R q r (Some i)
+  pub first : (i : ℕ) → answer ≡ Some i → FirstUnmatched rules R q r (Some i)

@@ -1,11 +1,9 @@
 // Checking a tree against a table, and the counts of the answers.
-ghost use Rattle.std.specs.Prelude.{◌≡◌, ◌≤◌, length};
-ghost use Rattle.automaton.specs.Inner.{RowsRoom};
-ghost use Rattle.indexing.specs.Inner.{IndexRoom};
+ghost use Rattle.std.specs.Prelude.{ℕ, ◌≡◌, ◌≤◌, ◌+◌, ◌*◌, length};
 ghost use Rattle.trees.specs.Answers.{acceptance_of, finding_of};
 ghost use Rattle.simulation.specs.Check as spec;
 
-use automaton::{Decoded, FEW_ROWS, ROWS, Refusal, decode};
+use automaton::{FEW_RULES, RULES, Refusal, Row, decode};
 use indexing::{FEW_INDEX, INDEX};
 use trees::{Answer, accept_tree};
 
@@ -76,33 +74,29 @@ pub fn check(counts: Counts, table: &[u8], tree: &[u8]) -> Checked
     }
 }
 
-// Whether a table accepts a tree, and if not, the subtree to look at; or the first cause of refusal. A rule takes ten bytes at least, so a short table gets short arrays, which
-// are cleared sooner.
+// Whether a table accepts a tree, and if not, the subtree to look at; or the first cause of refusal. A rule takes ten bytes at least, so a short
+// table gets short arrays, which are cleared sooner.
 fn check_tree(table: &[u8], tree: &[u8]) -> Result<Answer, Refusal>
     ensures { finding_of result ≡ spec.finding table.now tree.now }
 {
-    let mut ranks: [u8; 256] = [0; 256];
     if table.len() <= 1280 {
-        let mut rows: [u8; FEW_ROWS] = [0; FEW_ROWS];
-        let mut index: [u16; FEW_INDEX] = [0; FEW_INDEX];
-        return check_tree_in(table, tree, &mut ranks, &mut rows, &mut index);
+        check_tree_in::<FEW_RULES, FEW_INDEX>(table, tree)
+    } else {
+        check_tree_in::<RULES, INDEX>(table, tree)
     }
-    let mut rows: [u8; ROWS] = [0; ROWS];
-    let mut index: [u16; INDEX] = [0; INDEX];
-    check_tree_in(table, tree, &mut ranks, &mut rows, &mut index)
 }
 
-// The same, with arrays to work in.
-fn check_tree_in(
+// The same, with arrays for so many rules.
+fn check_tree_in<const R: usize, const I: usize>(
     table: &[u8],
     tree: &[u8],
-    ranks: &mut [u8],
-    rows: &mut [u8],
-    index: &mut [u16],
 ) -> Result<Answer, Refusal>
-    requires { (256 ≤ length ranks.old) × (RowsRoom table.now rows.old × IndexRoom table.now index.old) }
+    requires few { (R ≤ 1024) × ((257 ≤ I) × (I ≤ 1281)) }
+    requires room { (k : ℕ) → k ≤ 1024 → 10 * k ≤ length table.now → (k ≤ R) × (257 + k ≤ I) }
     ensures { finding_of result ≡ spec.finding table.now tree.now }
 {
-    let Decoded { size, finals } = decode(table, ranks, rows)?;
-    accept_tree(size, finals, ranks, rows, index, tree)
+    let mut rows = [Row::EMPTY; R];
+    let mut index = [0; I];
+    let decoded = decode(table, &mut rows)?;
+    accept_tree(&decoded, &mut index, tree)
 }

@@ -1,12 +1,8 @@
 // What the calls of `automaton` find in some bytes, a line each.
 ghost use Rattle.std.specs.Prelude.{◌≤◌, ◌<◌, IfSome, length};
-ghost use Rattle.automaton.specs.Automaton.{WellFormed};
-ghost use Rattle.automaton.specs.Row.{Row, Rows};
-ghost use Rattle.automaton.specs.Decoded.{automaton_in};
 
-use automaton::{Decoded, Opened, ROWS, Refusal, Size};
+use automaton::{Opened, RULES, Refusal, Row, Table};
 use cases::{add_all, line, write_spaced};
-use sets::StateSet;
 use std::io;
 use std::io::Write;
 
@@ -64,96 +60,54 @@ fn table<W: Write>(out: &mut W, t: &[u8]) -> io::Result<()> {
 
 // Decodes a table and writes it back.
 fn decode<W: Write>(out: &mut W, t: &[u8]) -> io::Result<()> {
-    let mut ranks = [7u8; 256];
-    let mut rows = [7u8; ROWS];
-    match automaton::decode(t, &mut ranks, &mut rows) {
+    let mut rows = [Row::EMPTY; RULES];
+    match automaton::decode(t, &mut rows) {
         Err(cause) => line(out, b"refused", &[u32::from(cause)]),
-        Ok(Decoded { size, finals }) => decoded(out, t.len(), size, finals, &ranks, &rows),
+        Ok(table) => decoded(out, t.len(), &table),
     }
 }
 
 // Writes what was decoded, in lines and as the bytes of a table.
-fn decoded<W: Write>(
-    out: &mut W,
-    bytes: usize,
-    size: Size,
-    finals: StateSet,
-    ranks: &[u8],
-    rows: &[u8],
-) -> io::Result<()>
-    requires symbols_in_bounds { size.symbols ≤ length ranks.now }
-    requires rows { Rows rows.now size.rules }
-    requires well_formed { WellFormed (automaton_in size finals.words ranks.now rows.now) }
-{
-    line(out, b"ranks", &ranks[..size.symbols])?;
-    print_finals(out, finals, size.states)?;
-    print_rules(out, rows, size.rules)?;
-    write(out, bytes, size, finals, ranks, rows)
+fn decoded<W: Write>(out: &mut W, bytes: usize, table: &Table) -> io::Result<()> {
+    line(out, b"ranks", table.ranks())?;
+    print_finals(out, table)?;
+    for rule in table.rules() {
+        print_rule(out, rule)?;
+    }
+    write(out, bytes, table)
 }
 
-fn print_finals<W: Write>(out: &mut W, finals: StateSet, n: usize) -> io::Result<()> {
+fn print_finals<W: Write>(out: &mut W, table: &Table) -> io::Result<()> {
     out.write_all(b"finals")?;
-    for q in (0..=u8::MAX).take(n).filter(|q| finals.has(*q)) {
-        write_spaced(out, &[q])?;
+    let n = table.size().states;
+    for q in table.finals().states() {
+        if usize::from(q) < n {
+            write_spaced(out, &[q])?;
+        }
     }
     out.write_all(b"\n")
 }
 
-fn print_rules<W: Write>(out: &mut W, rows: &[u8], k: usize) -> io::Result<()>
-    requires { Rows rows.now k }
-{
-    for i in 0..k {
-        print_rule(out, rows, i)?;
-    }
-    Ok(())
-}
-
-fn print_rule<W: Write>(out: &mut W, rows: &[u8], i: usize) -> io::Result<()>
-    requires { Row rows.now i }
-{
-    let symbol = automaton::symbol_of(rows, i);
-    let target = automaton::target_of(rows, i);
+fn print_rule<W: Write>(out: &mut W, rule: &Row) -> io::Result<()> {
     out.write_all(b"rule")?;
-    write_spaced(out, &[symbol, target])?;
-    line(out, b"", automaton::children_of(rows, i))
+    write_spaced(out, &[rule.symbol(), rule.target()])?;
+    line(out, b"", rule.children())
 }
 
 // Writes a table of some bytes into a buffer that is longer than it by 16 bytes, and into one that is a byte too short.
-fn write<W: Write>(
-    out: &mut W,
-    bytes: usize,
-    size: Size,
-    finals: StateSet,
-    ranks: &[u8],
-    rows: &[u8],
-) -> io::Result<()>
-    requires symbols_in_bounds { size.symbols ≤ length ranks.now }
-    requires rows { Rows rows.now size.rules }
-    requires well_formed { WellFormed (automaton_in size finals.words ranks.now rows.now) }
-{
+fn write<W: Write>(out: &mut W, bytes: usize, table: &Table) -> io::Result<()> {
     if bytes < 1 || bytes > SPACE - 16 {
         return Ok(());
     }
     let mut long = cases::filled::<SPACE>();
-    attempt(out, size, finals, ranks, rows, &mut long[..bytes + 16])?;
+    attempt(out, table, &mut long[..bytes + 16])?;
     let mut short = cases::filled::<SPACE>();
-    attempt(out, size, finals, ranks, rows, &mut short[..bytes - 1])
+    attempt(out, table, &mut short[..bytes - 1])
 }
 
 // Writes the table into `space`: its length or the refusal, and a checksum of all of `space` afterwards.
-fn attempt<W: Write>(
-    out: &mut W,
-    size: Size,
-    finals: StateSet,
-    ranks: &[u8],
-    rows: &[u8],
-    space: &mut [u8],
-) -> io::Result<()>
-    requires symbols_in_bounds { size.symbols ≤ length ranks.now }
-    requires rows { Rows rows.now size.rules }
-    requires well_formed { WellFormed (automaton_in size finals.words ranks.now rows.now) }
-{
-    let written = automaton::write(size, finals, ranks, rows, space);
+fn attempt<W: Write>(out: &mut W, table: &Table, space: &mut [u8]) -> io::Result<()> {
+    let written = automaton::write(table, space);
     write_written(out, written, add_all(0, space))
 }
 

@@ -1,9 +1,11 @@
 -- The walk with document 01's bench table, computed: what is held after each node and the answer at the end; that what is held decides, also where no
 -- tree leads to it; the refusals, and their order where two come together.
-use Prim.Native.Nat.{ℕ}
+use Prim.Native.Nat.{ℕ, zero, suc, ◌^◌, ◌<◌}
+use native.Mathlib.Omega.{arith}
 use mathlib.Core.Path.{◌≡◌, refl}
 use mathlib.Core.List.{List, [], ◌∷◌}
-use lib.ListN.{length, replicate}
+use lib.ListN.{length, get_or, replicate}
+use Rattle.std.proofs.Common.{lit<}
 use Rattle.std.specs.Prelude.{None}
 use Rattle.lists.specs.Lists.{from, keep, any, among}
 use Rattle.sets.specs.Set.{member}
@@ -16,7 +18,8 @@ use Rattle.automaton.proofs.Examples.{T}
 use Rattle.trees.specs.Postfix.{rank_on, single, is_tree_record}
 use Rattle.trees.specs.Subtree.{First, nowhere, first_at, first_of, accepted, rejected, pointed}
 use Rattle.trees.specs.Walk.{Waiting, Walk, start, have_in_order, leads_to, sizes_of, joined, is_none, noted, onto, advance, advance_all, closing}
-use Rattle.trees.specs.Inner.{stack_in, walk_in, nodes_finding}
+use Rattle.trees.specs.Inner.{set_at, start_at, stack_in, walk_in, nodes_finding}
+use Rattle.trees.specs.declared.entry.Entry.{Entry}
 use Rattle.trees.specs.Holds.{walk_finding}
 
 -- A waiting tree, and what is held.
@@ -25,6 +28,17 @@ tree states size = record { states = states; size = size }
 
 abbrev walk : List Waiting → ℕ → First → Walk
 walk stack nodes first = record { stack = stack; nodes = nodes; first = first }
+
+-- What the array has of a tree: the first word of its set, and its start.
+pub word_fits : (word : ℕ) → word < 2 ^ 64 → (i : ℕ) → get_or (word ∷ 0 ∷ 0 ∷ 0 ∷ []) i 0 < 2 ^ 64
+word_fits word low zero = low
+word_fits word low (suc zero) = omega arith
+word_fits word low (suc (suc zero)) = omega arith
+word_fits word low (suc (suc (suc zero))) = omega arith
+word_fits word low (suc (suc (suc (suc i)))) = omega arith
+
+abbrev entry : (word start : ℕ) → word < 2 ^ 64 → start < 65536 → Entry
+entry word start low few = record { states = record { words = word ∷ 0 ∷ 0 ∷ 0 ∷ []; four = refl; bits = word_fits word low }; start = start; few = few }
 
 -- So many leaves b wait.
 abbrev leaves : ℕ → Walk
@@ -40,8 +54,8 @@ pub record Walks : Type 0 where
   pub after_f : advance T (walk (tree (0 ∷ 1 ∷ 2 ∷ []) 1 ∷ tree (2 ∷ []) 1 ∷ []) 2 nowhere) 2 ≡ found (walk (tree (3 ∷ []) 3 ∷ []) 3 nowhere)
   pub whole : advance_all T start (1 ∷ 0 ∷ 2 ∷ []) ≡ found (walk (tree (3 ∷ []) 3 ∷ []) 3 nowhere)
   pub final : closing T (walk (tree (3 ∷ []) 3 ∷ []) 3 nowhere) ≡ found accepted
-  -- In arrays, after b and a: sets in words, starts for sizes; what stands behind the second tree has no part in it.
-  pub in_arrays : walk_in (4 ∷ 0 ∷ 0 ∷ 0 ∷ 7 ∷ 0 ∷ 0 ∷ 0 ∷ 8 ∷ 0 ∷ 0 ∷ 0 ∷ []) (0 ∷ 1 ∷ 5 ∷ []) (record { height = 2; nodes = 2; first = None })
+  -- In an array, after b and a: sets in words, starts for sizes; what stands behind the second tree has no part in it.
+  pub in_arrays : walk_in (entry 4 0 (lit< tt) (lit< tt) ∷ entry 7 1 (lit< tt) (lit< tt) ∷ entry 8 5 (lit< tt) (lit< tt) ∷ []) (record { height = 2; nodes = 2; first = None })
       ≡ walk (tree (0 ∷ 1 ∷ 2 ∷ []) 1 ∷ tree (2 ∷ []) 1 ∷ []) 2 nowhere
   -- f(f(a,a),a) of B8 belongs to no state: it is noted, and stays noted when f and b follow.
   pub without_state : advance_all T start (0 ∷ 0 ∷ 2 ∷ 0 ∷ 2 ∷ []) ≡ found (walk (tree [] 5 ∷ []) 5 (first_at 4 5))
@@ -73,7 +87,7 @@ pub record Walks : Type 0 where
 
 pub walks : Walks
 unfolding start advance advance_all closing nodes_finding walk_finding onto joined leads_to have_in_order sizes_of is_none noted first_of pointed rank_on single is_tree_record
-    walk_in stack_in states_in entry_at member from keep any among opened is_whole end_of body_of number2 number4 numbers encode_record bytes2 bytes4 fields check map_read ◌>>=◌ ◌>>◌
+    walk_in stack_in set_at start_at states_in entry_at member from keep any among opened is_whole end_of body_of number2 number4 numbers encode_record bytes2 bytes4 fields check map_read ◌>>=◌ ◌>>◌
 walks = record {
   after_b = refl;
   after_a = refl;

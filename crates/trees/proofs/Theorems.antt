@@ -1,16 +1,17 @@
--- What holds of the walk over a tree and of what the arrays hold between nodes, stated over the definitions of specs/ alone.
-use Prim.Native.Nat.{ℕ, ◌+◌, ◌^◌, ◌≤◌, ◌<◌}
+-- What holds of the walk over a tree and of what the array holds between nodes, stated over the definitions of specs/ alone.
+use Prim.Native.Nat.{ℕ, ◌+◌, ◌≤◌}
 use native.Mathlib.Omega.{arith}
 use mathlib.Core.Path.{◌≡◌}
 use mathlib.Core.Logic.{◌↔◌}
 use mathlib.Core.List.{List, []}
-use lib.ListN.{length, get_or}
+use lib.ListN.{length}
 use Rattle.records.specs.Read.{found, map_read}
 use Rattle.automaton.specs.Automaton.{Automaton, WellFormed}
 use Rattle.trees.specs.Postfix.{push_all}
 use Rattle.trees.specs.Walk.{Walk, start, sizes_of, advance_all}
 use Rattle.trees.specs.Inner.{StackRoom, tree_finding}
 use Rattle.trees.specs.Holds.{walk_finding, walk_of, Holding, SameUpTo, HoldableWalk}
+use Rattle.trees.specs.declared.entry.Entry.{Entry}
 use Rattle.trees.specs.declared.evaluation.Held.{Held}
 use Rattle.trees.proofs.Walking as walking
 use Rattle.trees.proofs.evaluation.Holding as holding
@@ -24,7 +25,7 @@ module _ (A : Automaton) (w : WellFormed A) where
   pub tree_walk : (b : List ℕ) → tree_finding A b ≡ walk_finding A b
   tree_walk = walking.tree_walk A w
 
-  -- Each walk over at most 16,384 symbols can be held in arrays, and the sizes of its trees add up to the number of symbols.
+  -- Each walk over at most 16,384 symbols can be held in an array, and the sizes of its trees add up to the number of symbols.
   pub walked_holdable : (symbols : List ℕ) {last : Walk} → length symbols ≤ 16384 → advance_all A start symbols ≡ found last
       → HoldableWalk last × (sizes_of last.stack ≡ length symbols) × (last.nodes ≡ length symbols)
   unfolding start
@@ -33,18 +34,15 @@ module _ (A : Automaton) (w : WellFormed A) where
       let all : last.nodes ≡ length symbols = omega arith in
       (holding.invariant_holdable A last w.states (omega arith) h, omega (arith, h.sizes), all)
 
--- The walks that arrays can hold: each of these, whether trees lead to it or not, and no other.
-pub walk_held : (w : Walk) → HoldableWalk w ↔ ((words : List ℕ) × (starts : List ℕ) × (held : Held) × Holding words starts held w)
-walk_held w = (holding.holdable_held w, λ (words, starts, held, h). holding.holding_holdable h)
+-- The walks that an array can hold: each of these, whether trees lead to it or not, and no other.
+pub walk_held : (w : Walk) → HoldableWalk w ↔ ((stack : List Entry) × (held : Held) × Holding stack held w)
+walk_held w = (holding.holdable_held w, λ (stack, held, h). holding.holding_holdable h)
 
-module _ {words starts words' starts' : List ℕ} {held : Held} {w : Walk} where
+module _ {stack stack' : List Entry} {held : Held} {w : Walk} where
   -- Nothing else is held: arrays that hold the same walk are the same up to the height.
-  pub held_alone : {held' : Held} → Holding words starts held w → Holding words' starts' held' w
-      → (held ≡ held') × SameUpTo held.height words starts words' starts'
+  pub held_alone : {held' : Held} → Holding stack held w → Holding stack' held' w → (held ≡ held') × SameUpTo held.height stack stack'
   held_alone = holding.held_alone
 
   -- What stands in them from the height on does not matter.
-  pub held_below : SameUpTo held.height words starts words' starts' → StackRoom (held.height + 1) words' starts'
-      → ((i : ℕ) → get_or words' i 0 < 2 ^ 64) × ((i : ℕ) → get_or starts' i 0 < 2 ^ 16)
-      → Holding words starts held w → Holding words' starts' held w
+  pub held_below : SameUpTo held.height stack stack' → StackRoom (held.height + 1) stack' → Holding stack held w → Holding stack' held w
   held_below = holding.held_below

@@ -1,4 +1,5 @@
 pub mod Answering
+pub mod Entries
 pub mod Holding
 pub mod NodeStates
 pub mod Nodes

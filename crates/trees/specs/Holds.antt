@@ -1,8 +1,7 @@
--- What is held between nodes, by the trees that were read and by the arrays; and what the walk finds of a tree in bytes. No contract cites any of it:
+-- What is held between nodes, by the trees that were read and by the stack; and what the walk finds of a tree in bytes. No contract cites any of it:
 -- proofs/Theorems.antt is about it.
-use Rattle.std.specs.Prelude.{ℕ, zero, suc, ◌+◌, ◌^◌, ◌≤◌, ◌<◌, ◌≡◌, List, map, reverse, length, get_or, leb}
+use Rattle.std.specs.Prelude.{ℕ, zero, suc, ◌+◌, ◌^◌, ◌≤◌, ◌<◌, ◌≡◌, List, map, reverse, length, leb}
 use Rattle.lists.specs.Lists.{All, Rising, from, keep}
-use Rattle.sets.specs.Entries.{entry_at}
 use Rattle.records.specs.Bytes.{numbers}
 use Rattle.records.specs.Record.{opened, body_of}
 use Rattle.records.specs.Read.{Read, ◌>>◌, check}
@@ -11,7 +10,8 @@ use Rattle.trees.specs.Tree.{Tree, belongs}
 use Rattle.trees.specs.Postfix.{trees_in, is_tree_record, postfix}
 use Rattle.trees.specs.Subtree.{subtrees_in, First, nowhere, first_at, first_of, first_bad, Finding}
 use Rattle.trees.specs.Walk.{Waiting, Walk, sizes_of}
-use Rattle.trees.specs.Inner.{StackRoom, walk_in, nodes_finding}
+use Rattle.trees.specs.Inner.{StackRoom, set_at, start_at, walk_in, nodes_finding}
+use Rattle.trees.specs.declared.entry.Entry.{Entry}
 use Rattle.trees.specs.declared.evaluation.Held.{Held}
 
 -- What the walk finds of a tree in bytes: 8, then the node limit (11), from the record and its length; then the walk over the body's symbols.
@@ -33,39 +33,39 @@ waiting_of A t = record { states = keep (belongs A.rules t) (from 0 A.states); s
 unfoldable pub walk_of : Automaton → List Tree → Walk
 walk_of A trees = record { stack = map (waiting_of A) trees; nodes = length (read_trees trees); first = first_bad A 0 (read_trees trees) }
 
--- The starts of so many trees, one after the other up to an end: none ends before it starts. Unlike `Consecutive`, the lowest may start after 0.
-unfoldable pub Following : List ℕ → ℕ → ℕ → Type 0
-Following starts zero end = Unit {0}
-Following starts (suc e) end = (get_or starts e 0 ≤ end) × Following starts e (get_or starts e 0)
+-- So many trees stand one after the other up to an end: none ends before it starts. Unlike with `Consecutive`, the lowest may start after 0.
+unfoldable pub Following : List Entry → ℕ → ℕ → Type 0
+Following stack zero end = Unit {0}
+Following stack (suc e) end = (start_at stack e ≤ end) × Following stack e (start_at stack e)
 
--- What is held fits the arrays: at most 1,024 trees, with room for one more up to that number; fewer nodes than a start can count; and no tree ends
+-- What is held fits the array: at most 1,024 trees, with room for one more up to that number; fewer nodes than a start can count; and no tree ends
 -- before it starts.
-pub record FitsArrays (words starts : List ℕ) (held : Held) : Type 0 where
+pub record FitsArray (stack : List Entry) (held : Held) : Type 0 where
   pub few : (held.height ≤ 1024) × (held.nodes < 65536)
-  pub room : StackRoom (held.height + 1) words starts
-  pub following : Following starts held.height held.nodes
+  pub room : StackRoom (held.height + 1) stack
+  pub following : Following stack held.height held.nodes
 
 -- A first node and the size of its tree, if there is one, are below n.
 unfoldable pub FirstBelow : ℕ → First → Type 0
 FirstBelow n nowhere = Unit {0}
 FirstBelow n (first_at i size) = (i < n) × (size < n)
 
--- Arrays that hold a walk: what is held fits them, and their numbers and those of the first node have the bits of their types.
-pub record Holding (words starts : List ℕ) (held : Held) (w : Walk) : Type 0 where
-  pub fits : FitsArrays words starts held
-  pub bits : ((i : ℕ) → get_or words i 0 < 2 ^ 64) × ((i : ℕ) → get_or starts i 0 < 2 ^ 16)
+-- An array that holds a walk: what is held fits it, and the numbers of the first node have the bits of their types. Those of the sets and the starts
+-- have them as parts of an `Entry`.
+pub record Holding (stack : List Entry) (held : Held) (w : Walk) : Type 0 where
+  pub fits : FitsArray stack held
   pub first : FirstBelow (2 ^ 64) (first_of held.first)
-  pub holds : walk_in words starts held ≡ w
+  pub holds : walk_in stack held ≡ w
 
 -- Arrays with the same sets and starts up to a height.
-abbrev pub SameUpTo : ℕ → List ℕ → List ℕ → List ℕ → List ℕ → Type 0
-SameUpTo h words starts words' starts' = (e : ℕ) → e < h → (entry_at words e ≡ entry_at words' e) × (get_or starts e 0 ≡ get_or starts' e 0)
+abbrev pub SameUpTo : ℕ → List Entry → List Entry → Type 0
+SameUpTo h stack stack' = (e : ℕ) → e < h → (set_at stack e ≡ set_at stack' e) × (start_at stack e ≡ start_at stack' e)
 
 -- The states of a waiting tree are below n, each once and in order.
 abbrev pub StatesBelow : ℕ → Waiting → Type 0
 StatesBelow n t = Rising t.states × All (λ (q : ℕ). q < n) t.states
 
--- The walks that arrays can hold: at most 1,024 trees, of states below 256; fewer nodes than 65,536; sizes that add up to no more than the number of
+-- The walks that an array can hold: at most 1,024 trees, of states below 256; fewer nodes than 65,536; sizes that add up to no more than the number of
 -- nodes; and a first node of any number and size that 64 bits have.
 pub record HoldableWalk (w : Walk) : Type 0 where
   pub few : (length w.stack ≤ 1024) × (w.nodes < 65536)

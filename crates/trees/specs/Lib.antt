@@ -4,5 +4,6 @@ pub mod Postfix
 pub mod Subtree
 pub mod Walk
 pub mod Inner
+pub mod Evaluated
 pub mod Holds
 pub mod Run

@@ -2,30 +2,31 @@
 // and its start: how many nodes stand before it. A tree ends where the one above it starts, and the topmost one after the last node, so that its size is
 // a difference. From the top: `accept_tree` takes the record apart, `accept_nodes` picks a stack for the nodes in it, `evaluate` goes through them, one
 // `step` for each, and `accept_stack` answers for what they leave.
-ghost use Rattle.std.specs.Prelude.{ℕ, ◌+◌, ◌-◌, ◌*◌, ◌/◌, ◌≤◌, ◌<◌, ◌≡◌, cond, length, drop, set, eqb};
-ghost use mathlib.Core.List.{List, Memᴰ};
-ghost use Rattle.lists.specs.Lists.{from, any};
-ghost use Rattle.sets.specs.Set.{member, empty_set, same_set, with_state};
-ghost use Rattle.sets.specs.Inner.{states_in};
-ghost use Rattle.sets.specs.Entries.{entry_at};
+ghost use Rattle.std.specs.Prelude.{ℕ, ◌+◌, ◌-◌, ◌/◌, ◌≤◌, ◌<◌, ◌≡◌, cond, length, min};
+ghost use mathlib.Core.List.{Memᴰ};
+ghost use Rattle.lists.specs.Lists.{any};
+ghost use Rattle.sets.specs.Set.{empty_set, same_set, with_state};
 ghost use Rattle.sets.specs.Inner.{Has};
 ghost use Rattle.records.specs.Bytes as bytes;
 ghost use Rattle.records.specs.Record.{opened};
-ghost use Rattle.automaton.specs.Automaton.{Automaton, WellFormed};
-ghost use Rattle.automaton.specs.Row.{rule_at, Row, Rows};
-ghost use Rattle.automaton.specs.Decoded.{automaton_in};
+ghost use Rattle.automaton.specs.Automaton.{WellFormed};
+ghost use Rattle.automaton.specs.Row.{rule_at};
 ghost use Rattle.trees.specs.Postfix.{is_tree_record};
 ghost use Rattle.trees.specs.Walk as walk;
 ghost use Rattle.trees.specs.Walk.{advance, advance_all, closing};
 ghost use Rattle.trees.specs.Subtree.{first_of};
 ghost use Rattle.trees.specs.Answers.{finding_of};
-ghost use Rattle.trees.specs.Inner.{Evaluable, StackRoom, in_order, rule_gives, gathered, start_of, Consecutive, LeavesConsecutive};
+ghost use Rattle.trees.specs.declared.entry.Entry.{Entry};
+ghost use Rattle.trees.specs.Inner as inner;
+ghost use Rattle.trees.specs.Inner.{in_order, rule_gives, StackRoom, Consecutive, LeavesConsecutive};
 ghost use Rattle.trees.specs.Inner.{walk_in, stepped_of, Holdable, nodes_finding, tree_finding};
 
-use automaton::{Size, children_of_rank, target_of};
-use indexing::{Key, index_rules, rules_of};
+use crate::entry::Entry;
+use automaton::{Row, Table};
+use indexing::{BySymbol, index_rules, numbers_of};
 use records::{Kind, Opened, Refusal, body, number2, open};
-use sets::{StateSet, entry, put_entry};
+use sets::StateSet;
+use std::marker::Model;
 
 // A subtree, by the number of its top node in postfix order, counted from 0, and by how many nodes it has.
 #[derive(Clone, Copy, Debug, PartialEq, Eq)]
@@ -50,83 +51,64 @@ pub struct Held {
     pub first: Option<Subtree>,
 }
 
-// 1 if state q is in set e, and 0 if not: a number, so that no branch hangs on it.
-fn bit_at(sets: &[u64], e: usize, q: u8) -> u64
-    requires { 4 * e + 4 ≤ length sets.now }
-    ensures { result ≡ cond (member (entry_at sets.now e) q) 1 0 }
-{
-    let i = q as usize;
-    (sets[4 * e + i / 64] >> (i % 64)) % 2
-}
-
-// 1 if the children are in the sets, one each and in order, and 0 if not. At most two children, the most frequent cases, go without a loop.
-fn fits(sets: &[u64], children: &[u8]) -> u64
-    requires { 4 * length children.now ≤ length sets.now }
-    ensures { result ≡ cond (in_order sets.now children.now) 1 0 }
+// Whether the children are states of the trees, one each and in order. At most two children, the most frequent cases, go without a loop; no branch hangs
+// on a state.
+fn fits(trees: &[Entry], children: &[u8]) -> bool
+    requires { length children.now ≤ length trees.now }
+    ensures { result ≡ in_order trees.now children.now }
 {
     if children.is_empty() {
-        return 1;
+        return true;
     }
-    let first = bit_at(sets, 0, children[0]);
+    let first = trees[0].belongs(children[0]);
     if children.len() == 1 {
         return first;
     }
-    let mut bit = first & bit_at(sets, 1, children[1]);
-    for j in 2..children.len() {
-        bit &= bit_at(sets, j, children[j]);
+    let both = first & trees[1].belongs(children[1]);
+    if children.len() == 2 {
+        return both;
     }
-    bit
+    let mut all = both;
+    for (tree, q) in trees[2..].iter().zip(&children[2..]) {
+        all &= tree.belongs(*q);
+    }
+    all
 }
 
-// Whether one of the first `count` sets is empty.
-fn has_empty(sets: &[u64], count: usize) -> bool
-    requires { 4 * count ≤ length sets.now }
-    ensures { result ≡ any (λ (e : ℕ). same_set (entry_at sets.now e) empty_set) (from 0 count) }
+// Whether one of the trees belongs to no state.
+fn has_empty(trees: &[Entry]) -> bool
+    ensures { result ≡ any (λ (t : Entry). same_set t.states.words empty_set) trees.now }
 {
-    (0..count).any(|e| entry(sets, e).same(StateSet::empty()))
+    trees.iter().any(|tree| tree.states.is_empty())
 }
 
-// Adds state q to a set if `bit` is 1, and leaves the set if it is 0. The words of the set stand two places apart: so they are read back one by
+// Adds state q to a set if `bit` is true, and leaves the set if not. The words of the set stand two places apart: so they are read back one by
 // one, and not in pairs for which the processor would wait.
-fn add_if(spread: &mut [u64], q: u8, bit: u64)
-    requires { (length spread.old ≡ 8) × (bit ≤ 1) }
-    ensures { gathered spread.new
-        ≡ cond (eqb bit 1) (with_state (gathered spread.old) q) (gathered spread.old) }
+fn add_if(spread: &mut [u64; 8], q: u8, bit: bool)
+    ensures { inner.gathered spread.new
+        ≡ cond bit (with_state (inner.gathered spread.old) q) (inner.gathered spread.old) }
 {
     let w = 2 * usize::from(q / 64);
-    spread[w] |= bit << (q % 64);
+    spread[w] |= u64::from(bit) << (q % 64);
 }
 
-// The targets of those rules, by their numbers and each with `rank` children, whose children are in the sets, one each and in order. With
-// `test_empty` no rule is looked at where one of that many sets is empty; the targets are the same without.
-fn targets(rows: &[u8], numbers: &[u16], sets: &[u64], rank: usize, test_empty: bool) -> StateSet
-    requires rank_in_bounds { 4 * rank ≤ length sets.now }
-    requires by_index { (i : ℕ) → Memᴰ i numbers.now → Row rows.now i × (rank ≡ length (rule_at rows.now i).children) }
-    ensures { Has result.words
-        (λ (q : ℕ). any (rule_gives rows.now sets.now q) numbers.now) }
+// The set whose words stand two places apart.
+fn gathered(spread: &[u64; 8]) -> StateSet
+    ensures { result.words ≡ inner.gathered spread.now }
 {
-    if test_empty && has_empty(sets, rank) {
-        return StateSet::empty();
-    }
-    let mut spread: [u64; 8] = [0; 8];
-    for i in numbers {
-        let i = usize::from(*i);
-        let bit = fits(sets, children_of_rank(rows, i, rank));
-        add_if(&mut spread, target_of(rows, i), bit);
-    }
     StateSet {
         words: [spread[0], spread[2], spread[4], spread[6]],
     }
 }
 
-// Puts the start of a node's tree at place e: the node's own number, if it has no children. Otherwise it is the start of its first child, which
-// stands there already.
-fn put_start(starts: &mut [u16], e: usize, rank: usize, node: usize)
-    requires { (e < length starts.old) × (node < 16384) }
-    ensures { starts.new ≡ set starts.old e (start_of starts.old e rank node) }
+// Where a node's tree starts: at the node itself, if it has no children, and otherwise where its first child does.
+fn start_of(children: &[Entry], node: usize) -> u16
+    requires { node < 16384 }
+    ensures { result ≡ inner.start_of children.now node }
 {
-    if rank == 0 {
-        starts[e] = node as u16;
+    match children.first() {
+        Some(child) => child.start,
+        None => node as u16,
     }
 }
 
@@ -135,7 +117,7 @@ fn noted(first: Option<Subtree>, node: usize, start: usize, states: StateSet) ->
     requires { (start ≤ node) × (node < 16384) }
     ensures { first_of result ≡ walk.noted (first_of first) node (node + 1 - start) (same_set states.words empty_set) }
 {
-    if first.is_none() && states.same(StateSet::empty()) {
+    if first.is_none() && states.is_empty() {
         return Some(Subtree {
             node,
             size: node + 1 - start,
@@ -144,150 +126,166 @@ fn noted(first: Option<Subtree>, node: usize, start: usize, states: StateSet) ->
     first
 }
 
-// One node: its tree takes the place of its children's on the stack. In a walk no set there is empty before the first tree without a state, so that sets
-// are tested only from then on.
-fn step(
-    ranks: &[u8],
-    rows: &[u8],
-    index: &[u16],
-    symbol: usize,
-    stack: &mut [u64],
-    starts: &mut [u16],
-    held: Held,
-) -> Result<Held, Refusal>
-    requires evaluable { (A : Automaton) × Evaluable A ranks.now rows.now index.now }
-    requires height_bound { (held.height ≤ 1024) × StackRoom (held.height + 1) stack.old starts.old }
-    requires nodes_bound { (held.nodes < 16384) × Consecutive starts.old held.height held.nodes }
-    ensures result_after { (A : Automaton) → Evaluable A ranks.now rows.now index.now
-        → stepped_of stack.new starts.new result
-        ≡ advance A (walk_in stack.old starts.old held) symbol }
-    ensures leaves_consecutive { LeavesConsecutive starts.new result }
-{
-    if symbol >= ranks.len() {
-        return Err(Refusal::UnknownSymbol);
-    }
-    let rank = ranks[symbol] as usize;
-    let height = held.height;
-    if height < rank {
-        return Err(Refusal::Unbalanced);
-    }
-    let e = height - rank;
-    if e >= 1024 {
-        return Err(Refusal::TreeAboveLimit);
-    }
-    let first = held.first;
-    let nodes = held.nodes;
-    let numbers = rules_of(index, symbol);
-    let set = targets(rows, numbers, &stack[4 * e..], rank, first.is_some());
-    put_entry(stack, e, set);
-    put_start(starts, e, rank, nodes);
-    let start = starts[e] as usize;
-    Ok(Held {
-        height: e + 1,
-        nodes: nodes + 1,
-        first: noted(first, nodes, start, set),
-    })
+// What trees are evaluated against: a table, and the index of its rules by symbol.
+#[derive(Drop)]
+struct Evaluator<'a> {
+    states: usize,
+    ranks: &'a [u8],
+    finals: StateSet,
+    rules: &'a [Row],
+    index: &'a [u16],
 }
 
-// All nodes of a tree's body, one after the other, on an empty stack.
-fn evaluate(
-    ranks: &[u8],
-    rows: &[u8],
-    index: &[u16],
-    b: &[u8],
-    stack: &mut [u64],
-    starts: &mut [u16],
-) -> Result<Held, Refusal>
-    requires evaluable { (A : Automaton) × Evaluable A ranks.now rows.now index.now }
-    requires b_len_bound { (length b.now / 2 ≤ 16384) × StackRoom (length b.now / 2) stack.old starts.old }
-    ensures { (A : Automaton) → Evaluable A ranks.now rows.now index.now
-        → stepped_of stack.new starts.new result ≡ advance_all A walk.start (bytes.numbers b.now) }
-{
-    let mut held = Held {
-        height: 0,
-        nodes: 0,
-        first: None,
-    };
-    for symbol in b.chunks_exact(2) {
-        held = step(
-            ranks,
-            rows,
+impl<'a> Model for Evaluator<'a> {
+    ghost use Rattle.automaton.specs.Automaton.{Automaton};
+
+    ghost Value = { Automaton };
+
+    ghost use Rattle.trees.specs.Evaluated.{automaton_of};
+    ghost use Rattle.trees.specs.Inner.{Evaluable};
+
+    ghost view = { automaton_of };
+
+    ghost invariant = { λ t. Evaluable (automaton_of t) t.index.now };
+}
+
+impl<'a> Evaluator<'a> {
+    // Of a decoded table; the index is made in a lent array.
+    fn new(table: &'a Table, index: &'a mut [u16]) -> Evaluator<'a>
+        requires { 257 + length table.now.rules ≤ length index.old }
+        ensures value { result ≡ table.now }
+        ensures well_formed { WellFormed result }
+    {
+        let size = table.size();
+        let rules = table.rules();
+        index_rules::<BySymbol>(rules, size.symbols, index);
+        Evaluator {
+            states: size.states,
+            ranks: table.ranks(),
+            finals: table.finals(),
+            rules,
             index,
-            usize::from(number2(symbol, 0)),
-            stack,
-            starts,
-            held,
-        )?;
+        }
     }
-    Ok(held)
-}
 
-// Whether one of the final states is in the stack's lowest entry.
-fn has_final(finals: StateSet, stack: &[u64]) -> bool
-    requires { 4 ≤ length stack.now }
-    ensures { result ≡ any (member (entry_at stack.now 0)) (states_in 256 finals.words) }
-{
-    !entry(stack, 0).meet(finals).same(StateSet::empty())
-}
-
-// The answer for the tree on the stack, if there is one alone. The subtree to be named is the first that belongs to no state, or the whole tree.
-fn accept_stack(held: Held, finals: StateSet, stack: &[u64]) -> Result<Answer, Refusal>
-    requires { (4 ≤ length stack.now) × (held.height ≤ held.nodes) }
-    ensures { (A : Automaton) (starts : List ℕ) → A.states ≤ 256 → A.finals ≡ states_in A.states finals.words
-        → Holdable A (walk_in stack.now starts held) → finding_of result ≡ closing A (walk_in stack.now starts held) }
-{
-    if held.height != 1 {
-        return Err(Refusal::Unbalanced);
+    // The targets of those rules, by their numbers and each with one child for each of the trees, whose children are states of the trees, in order.
+    fn targets(&self, numbers: &[u16], trees: &[Entry]) -> StateSet
+        requires { (i : ℕ) → Memᴰ i numbers.now → (i < length self.now.rules)
+            × (length (rule_at self.now.rules i).children ≡ length trees.now) }
+        ensures { Has result.words
+            (λ (q : ℕ). any (rule_gives self.now.rules trees.now q) numbers.now) }
+    {
+        let rules = self.rules;
+        let mut spread = [0; 8];
+        for i in numbers {
+            let rule = &rules[usize::from(*i)];
+            // They are as many as the trees: cut so, they are not counted again for each rule.
+            let children = &rule.children()[..trees.len()];
+            add_if(&mut spread, rule.target(), fits(trees, children));
+        }
+        gathered(&spread)
     }
-    if has_final(finals, stack) {
-        return Ok(Answer::Accepted);
-    }
-    let whole = Subtree {
-        node: held.nodes - 1,
-        size: held.nodes,
-    };
-    Ok(Answer::Rejected(held.first.unwrap_or(whole)))
-}
 
-// The answer for a tree's body, on a stack with room for its nodes.
-fn accept_nodes_on(
-    finals: StateSet,
-    ranks: &[u8],
-    rows: &[u8],
-    index: &[u16],
-    b: &[u8],
-    stack: &mut [u64],
-    starts: &mut [u16],
-) -> Result<Answer, Refusal>
-    requires evaluable { (A : Automaton) × Evaluable A ranks.now rows.now index.now }
-    requires b_len_bound { (length b.now / 2 ≤ 16384) × StackRoom (length b.now / 2) stack.old starts.old × (4 ≤ length stack.old) }
-    ensures { (A : Automaton) → Evaluable A ranks.now rows.now index.now
-        → A.finals ≡ states_in A.states finals.words → finding_of result ≡ nodes_finding A (bytes.numbers b.now) }
-{
-    let held = evaluate(ranks, rows, index, b, stack, starts)?;
-    accept_stack(held, finals, stack)
-}
-
-// The answer for a tree's body; a body of at most 64 nodes gets a small stack, which is cleared sooner.
-fn accept_nodes(
-    finals: StateSet,
-    ranks: &[u8],
-    rows: &[u8],
-    index: &[u16],
-    b: &[u8],
-) -> Result<Answer, Refusal>
-    requires { ((A : Automaton) × Evaluable A ranks.now rows.now index.now) × (length b.now / 2 ≤ 16384) }
-    ensures { (A : Automaton) → Evaluable A ranks.now rows.now index.now
-        → A.finals ≡ states_in A.states finals.words → finding_of result ≡ nodes_finding A (bytes.numbers b.now) }
-{
-    if b.len() <= 128 {
-        let mut stack: [u64; 256] = [0; 256];
-        let mut starts: [u16; 64] = [0; 64];
-        return accept_nodes_on(finals, ranks, rows, index, b, &mut stack, &mut starts);
+    // The same. In a walk no set is empty before the first tree without a state, so that sets are tested only from then on; where one is empty, no rule
+    // is looked at.
+    fn states_over(&self, numbers: &[u16], trees: &[Entry], first: Option<Subtree>) -> StateSet
+        requires { (i : ℕ) → Memᴰ i numbers.now → (i < length self.now.rules)
+            × (length (rule_at self.now.rules i).children ≡ length trees.now) }
+        ensures { Has result.words
+            (λ (q : ℕ). any (rule_gives self.now.rules trees.now q) numbers.now) }
+    {
+        let _ = &self.rules;
+        if first.is_some() && has_empty(trees) {
+            return StateSet::empty();
+        }
+        self.targets(numbers, trees)
     }
-    let mut stack: [u64; 4096] = [0; 4096];
-    let mut starts: [u16; 1024] = [0; 1024];
-    accept_nodes_on(finals, ranks, rows, index, b, &mut stack, &mut starts)
+
+    // One node: its tree takes the place of its children's on the stack.
+    fn step(&self, symbol: usize, stack: &mut [Entry], held: Held) -> Result<Held, Refusal>
+        requires height_bound { (held.height ≤ 1024) × StackRoom (held.height + 1) stack.old }
+        requires nodes_bound { (held.nodes < 16384) × Consecutive stack.old held.height held.nodes }
+        ensures result_after { stepped_of stack.new result
+            ≡ advance self.now (walk_in stack.old held) symbol }
+        ensures leaves_consecutive { LeavesConsecutive stack.new result }
+    {
+        let rank = *self.ranks.get(symbol).ok_or(Refusal::UnknownSymbol)?;
+        let e = held
+            .height
+            .checked_sub(usize::from(rank))
+            .ok_or(Refusal::Unbalanced)?;
+        if e >= 1024 {
+            return Err(Refusal::TreeAboveLimit);
+        }
+        let numbers = numbers_of(self.index, symbol);
+        let children = &stack[e..held.height];
+        let states = self.states_over(numbers, children, held.first);
+        let start = start_of(children, held.nodes);
+        stack[e] = Entry { states, start };
+        Ok(Held {
+            height: e + 1,
+            nodes: held.nodes + 1,
+            first: noted(held.first, held.nodes, usize::from(start), states),
+        })
+    }
+
+    // All nodes of a tree's body, one after the other, on an empty stack.
+    fn evaluate(&self, b: &[u8], stack: &mut [Entry]) -> Result<Held, Refusal>
+        requires { (length b.now / 2 ≤ 16384) × StackRoom (length b.now / 2) stack.old }
+        ensures { stepped_of stack.new result ≡ advance_all self.now walk.start (bytes.numbers b.now) }
+    {
+        let mut held = Held {
+            height: 0,
+            nodes: 0,
+            first: None,
+        };
+        for symbol in b.chunks_exact(2) {
+            held = self.step(usize::from(number2(symbol, 0)), stack, held)?;
+        }
+        Ok(held)
+    }
+
+    // The answer for the tree on the stack, if there is one alone. The subtree to be named is the first that belongs to no state, or the whole tree.
+    fn accept_stack(&self, held: Held, stack: &[Entry]) -> Result<Answer, Refusal>
+        requires { (1 ≤ length stack.now) × (held.height ≤ held.nodes) }
+        ensures { Holdable self.now (walk_in stack.now held)
+            → finding_of result ≡ closing self.now (walk_in stack.now held) }
+    {
+        if held.height != 1 {
+            return Err(Refusal::Unbalanced);
+        }
+        if !stack[0].states.meet(self.finals).is_empty() {
+            return Ok(Answer::Accepted);
+        }
+        let whole = Subtree {
+            node: held.nodes - 1,
+            size: held.nodes,
+        };
+        Ok(Answer::Rejected(held.first.unwrap_or(whole)))
+    }
+
+    // The answer for a tree's body, on a stack for N trees, which are enough for its nodes.
+    fn accept_nodes_in<const N: usize>(&self, b: &[u8]) -> Result<Answer, Refusal>
+        requires trees { (1 ≤ N) × (N ≤ 1024) }
+        requires room { (length b.now / 2 ≤ 16384) × (min (length b.now / 2) 1024 ≤ N) }
+        ensures { finding_of result ≡ nodes_finding self.now (bytes.numbers b.now) }
+    {
+        let mut stack = [Entry::EMPTY; N];
+        let held = self.evaluate(b, &mut stack)?;
+        self.accept_stack(held, &stack)
+    }
+
+    // The answer for a tree's body; a body of at most 64 nodes gets a small stack, which is cleared sooner.
+    fn accept_nodes(&self, b: &[u8]) -> Result<Answer, Refusal>
+        requires { length b.now / 2 ≤ 16384 }
+        ensures { finding_of result ≡ nodes_finding self.now (bytes.numbers b.now) }
+    {
+        if b.len() <= 128 {
+            self.accept_nodes_in::<64>(b)
+        } else {
+            self.accept_nodes_in::<1024>(b)
+        }
+    }
 }
 
 // Whether `t` is one record of kind 16 with an even body, and nothing after it.
@@ -302,19 +300,9 @@ fn is_tree(t: &[u8]) -> bool
 
 // Whether a decoded table accepts a tree, and if not, the subtree to be named; or the tree's first cause of refusal. The index is made in a lent
 // array.
-pub fn accept_tree(
-    size: Size,
-    finals: StateSet,
-    ranks: &[u8],
-    rows: &[u8],
-    index: &mut [u16],
-    tree: &[u8],
-) -> Result<Answer, Refusal>
-    requires symbols_in_bounds { (size.symbols ≤ length ranks.now) × (257 + size.rules ≤ length index.old) }
-    requires rows { Rows rows.now size.rules }
-    requires well_formed { WellFormed (automaton_in size finals.words ranks.now rows.now) }
-    ensures { finding_of result
-        ≡ tree_finding (automaton_in size finals.words ranks.now rows.now) tree.now }
+pub fn accept_tree(table: &Table, index: &mut [u16], tree: &[u8]) -> Result<Answer, Refusal>
+    requires { 257 + length table.now.rules ≤ length index.old }
+    ensures { finding_of result ≡ tree_finding table.now tree.now }
 {
     if !is_tree(tree) {
         return Err(Refusal::NotATree);
@@ -323,7 +311,5 @@ pub fn accept_tree(
     if b.len() / 2 > 16384 {
         return Err(Refusal::TreeAboveLimit);
     }
-    let m = size.symbols;
-    index_rules(rows, size.rules, Key::Symbol, m, index);
-    accept_nodes(finals, &ranks[..m], rows, index, b)
+    Evaluator::new(table, index).accept_nodes(b)
 }

@@ -1,6 +1,7 @@
 // Evaluates a tree in bytes against a decoded table.
 #![tactic(auto)]
 
+mod entry;
 mod evaluation;
 
 // Exported for the crates above.

@@ -1,84 +1,109 @@
--- Rules written in front over others: the first rows hold the new rules, and the rows that are still to be read hold the old ones. For `compact`
--- and `rename_rules`.
+-- Rules written in front over others: the first rows hold the new rules, and the rows that are still to be read are the old ones. For `retain`,
+-- `compact` and `rename_rules`.
 use Prim.Native.Nat.{ℕ, ◌+◌, ◌≤◌, ◌<◌}
+use native.Mathlib.Numerals.{add-one}
 use native.Mathlib.Omega.{arith}
 use mathlib.Core.Path.{◌≡◌, refl, sym, ap, ◌∙◌}
 use mathlib.Core.List.{List, [], ◌∷◌, ◌++◌, map, map-append, append-nil}
 use mathlib.Core.Bool.{Bool, true, false}
-use lib.ListN.{length, length-map}
+use lib.ListN.{length, take, get_or, set, length-map}
+use lib.Seq.{get_or-set_other, length-take-le, take-suc-set}
 use Rattle.lists.specs.Lists.{from, keep}
-use Rattle.lists.proofs.Overwriting.{keep_step, single_kept, single_dropped, kept_few}
+use Rattle.lists.proofs.Keeping.{keep_append}
+use Rattle.lists.proofs.Overwriting.{keep_step, single_kept, single_dropped}
 use Rattle.automaton.specs.Automaton.{Rule, renamed}
-use Rattle.automaton.specs.Inner.{Puts}
-use Rattle.automaton.specs.Row.{rule_at, rules_in, Row, Rows}
-use Rattle.automaton.proofs.Rows.{length_rules_in, rules_next, rows_more, rules_more}
+use Rattle.automaton.specs.Row.{rule_of, rule_at, rules_of}
+use Rattle.automaton.specs.declared.row.Row.{Row}
+use Rattle.refinement.proofs.RuleRows.{rule_is, rules_more}
 
 -- The first n rows hold the rules us, and those from row i on are as before.
-pub record Overwritten (old : List ℕ) (us : List Rule) (i n : ℕ) (rows : List ℕ) : Type 0 where
-  pub as_long : length rows ≡ length old
-  pub held : Rows rows n
-  pub rules : rules_in rows n ≡ us
-  pub rest : (j : ℕ) → i ≤ j → Row old j → Row rows j × (rule_at rows j ≡ rule_at old j)
+pub record Overwritten (old : List Row) (us : List Rule) (i n : ℕ) (rows : List Row) : Type 0 where
+  pub few : n ≤ i
+  pub rules : rules_of (take n rows) ≡ us
+  pub rest : (j : ℕ) (d : Row) → i ≤ j → get_or rows j d ≡ get_or old j d
 
-none_written : (old : List ℕ) → Overwritten old [] 0 0 old
-unfolding rules_in from
-none_written old = record {
-  as_long = refl;
-  held = record { count = omega arith; row = λ j h. absurd (omega arith) };
-  rules = refl;
-  rest = λ j h r. (r, refl);
-}
+none_written : (old : List Row) → Overwritten old [] 0 0 old
+none_written old = record { few = omega arith; rules = refl; rest = λ j d h. refl }
 
-module _ {old : List ℕ} {us : List Rule} {i n : ℕ} {rows : List ℕ} (w : Overwritten old us i n rows) where
+module _ {old : List Row} {us : List Rule} {i n : ℕ} {rows : List Row} (w : Overwritten old us i n rows) where
   row_passed : Overwritten old us (i + 1) n rows
-  row_passed = record { as_long = w.as_long; held = w.held; rules = w.rules; rest = λ j h. w.rest j (omega arith) }
+  row_passed = let few = w.few in record { few = omega arith; rules = w.rules; rest = λ j d h. w.rest j d (omega arith) }
 
-  rule_written : n ≤ i → i < 1024 → {rows' : List ℕ} {u : Rule} → Puts rows rows' n u
-      → Overwritten old (us ++ (u ∷ [])) (i + 1) (n + 1) rows'
-  rule_written few low {u} p = record {
-    as_long = p.as_long ∙ w.as_long;
-    held = rows_more w.held p (omega arith);
-    rules = rules_more w.held p ∙ ap (λ (vs : List Rule). vs ++ (u ∷ [])) w.rules;
-    rest = λ j h r.
-        let (row, same) = w.rest j (omega arith) r in
-        let (row', same') = p.others j (λ e. omega arith) row in
-        (row', same' ∙ same);
-  }
+  rule_written : n < length rows → (row : Row) → Overwritten old (us ++ (rule_of row ∷ [])) (i + 1) (n + 1) (set rows n row)
+  rule_written room row =
+      let few = w.few in
+      record {
+        few = omega arith;
+        rules = rw (add-one, take-suc-set rows n row room, map-append, w.rules);
+        rest = λ j d h. get_or-set_other rows n j row d (λ e. omega arith) ∙ w.rest j d (omega arith);
+      }
 
--- The kept ones of the first i rules.
-module _ (test : ℕ → Bool) (old : List ℕ) where
-  abbrev pub Compacted : ℕ → ℕ → List ℕ → Type 0
-  Compacted i n rows = Overwritten old (map (rule_at old) (keep test (from 0 i))) i n rows
+  -- Row i is still the old one.
+  row_there : (row : Row) → row ≡ get_or rows i row → row ≡ get_or old i row
+  row_there row is = is ∙ w.rest i row (omega arith)
+
+-- What a test says of row i, where it was asked of the row that was read there.
+pub tested : (test : Rule → Bool) (rows : List Row) (i : ℕ) (row : Row) {t : Bool} → i < length rows → row ≡ get_or rows i row
+    → t ≡ test (rule_of (get_or rows i row)) → test (rule_at (rules_of rows) i) ≡ t
+tested test rows i row h is e = ap test (rule_is rows i row h is ∙ ap rule_of is) ∙ sym e
+
+-- The ones of the first i rules that pass a test.
+module _ (test : Rule → Bool) (old : List Row) where
+  abbrev pub Retained : ℕ → ℕ → List Row → Type 0
+  Retained i n rows = Overwritten old (keep test (rules_of (take i old))) i n rows
+
+  pub retained_none : Retained 0 0 old
+  unfolding keep
+  retained_none = none_written old
+
+  module _ {i n : ℕ} {rows : List Row} (w : Retained i n rows) (low : i < length old) (room : i < length rows) (row : Row)
+      (is : row ≡ get_or rows i row) where
+    pub retained_skip : test (rule_at (rules_of rows) i) ≡ false → Retained (i + 1) n rows
+    unfolding keep
+    retained_skip e =
+        let out : test (rule_of row) ≡ false = ap test (sym (rule_is rows i row room is)) ∙ e in
+        rw (rules_more old i row low (row_there w row is), keep_append, out, append-nil) (row_passed w)
+
+    pub retained_keep : test (rule_at (rules_of rows) i) ≡ true → Retained (i + 1) (n + 1) (set rows n row)
+    unfolding keep
+    retained_keep e =
+        let few = w.few in
+        let held : test (rule_of row) ≡ true = ap test (sym (rule_is rows i row room is)) ∙ e in
+        rw (rules_more old i row low (row_there w row is), keep_append, held) (rule_written w (omega arith) row)
+
+-- The ones of the first i rules whose number passes a test.
+module _ (test : ℕ → Bool) (old : List Row) where
+  abbrev pub Compacted : ℕ → ℕ → List Row → Type 0
+  Compacted i n rows = Overwritten old (map (rule_at (rules_of old)) (keep test (from 0 i))) i n rows
 
   pub compacted_none : Compacted 0 0 old
   unfolding keep from
   compacted_none = none_written old
 
-  module _ {i n : ℕ} {rows : List ℕ} (w : Compacted i n rows) where
-    pub compacted_count : n ≡ length (keep test (from 0 i))
-    compacted_count = sym (length_rules_in rows n) ∙ ap length w.rules ∙ length-map (keep test (from 0 i)) (rule_at old)
-
-    pub compacted_few : n ≤ i
-    compacted_few = omega (arith, compacted_count, kept_few test i)
+  module _ {i n : ℕ} {rows : List Row} (w : Compacted i n rows) where
+    pub compacted_count : n ≤ length rows → n ≡ length (keep test (from 0 i))
+    compacted_count room =
+        sym (length-take-le n rows room) ∙ sym (length-map (take n rows) rule_of) ∙ ap length w.rules
+        ∙ length-map (keep test (from 0 i)) (rule_at (rules_of old))
 
     pub compacted_skip : test i ≡ false → Compacted (i + 1) n rows
     compacted_skip e = rw (keep_step, single_dropped test i e, append-nil) (row_passed w)
 
-    pub compacted_keep : test i ≡ true → i < 1024 → Row old i → {rows' : List ℕ} → Puts rows rows' n (rule_at rows i)
-        → Compacted (i + 1) (n + 1) rows'
-    compacted_keep e low row p =
-        rw (keep_step, single_kept test i e, map-append, ← (w.rest i (omega arith) row).1) (rule_written w compacted_few low p)
+    pub compacted_keep : test i ≡ true → i < length old → n < length rows → (row : Row) → row ≡ get_or rows i row
+        → Compacted (i + 1) (n + 1) (set rows n row)
+    compacted_keep e low room row is =
+        rw (keep_step, single_kept test i e, map-append, rule_is old i row low (row_there w row is)) (rule_written w room row)
 
 -- The first i rules with new names.
-module _ (name : ℕ → ℕ) (old : List ℕ) where
-  abbrev pub Renamed : ℕ → List ℕ → Type 0
-  Renamed i rows = Overwritten old (map (renamed name) (rules_in old i)) i i rows
+module _ (name : ℕ → ℕ) (old : List Row) where
+  abbrev pub Renamed : ℕ → List Row → Type 0
+  Renamed i rows = Overwritten old (map (renamed name) (rules_of (take i old))) i i rows
 
   pub renamed_none : Renamed 0 old
-  unfolding rules_in from
   renamed_none = none_written old
 
-  pub renamed_next : {i : ℕ} {rows : List ℕ} → Renamed i rows → i < 1024 → Row old i → {rows' : List ℕ}
-      → Puts rows rows' i (renamed name (rule_at rows i)) → Renamed (i + 1) rows'
-  renamed_next {i} w low row p =
-      rw (rules_next, map-append, ← (w.rest i (omega arith) row).1) (rule_written w (omega arith) low p)
+  pub renamed_next : {i : ℕ} {rows : List Row} → Renamed i rows → i < length old → i < length rows → (row new : Row)
+      → row ≡ get_or rows i row → rule_of new ≡ renamed name (rule_of (get_or rows i row)) → Renamed (i + 1) (set rows i new)
+  renamed_next {i} w low room row new is e =
+      let same : rule_of new ≡ renamed name (rule_of row) = e ∙ ap (λ (r : Row). renamed name (rule_of r)) (sym is) in
+      rw (rules_more old i row low (row_there w row is), map-append, ← same) (rule_written w room new)

@@ -1,55 +1,51 @@
--- What the calls of each step leave in the arrays is the stage that the step defines: from the contracts of the calls and what `stages` proves
--- of the steps, for the functions of src/steps.rt.
-use Prim.Native.Nat.{ℕ, ◌≤◌, ◌<◌}
+-- What the calls of each step leave in the sets and the rows is the stage that the step defines: from the contracts of the calls and what
+-- `stages` proves of the steps, for the functions of src/steps.rt.
+use Prim.Native.Nat.{ℕ, ◌<◌}
 use native.Mathlib.Omega.{arith}
-use mathlib.Core.Path.{◌≡◌, sym, ap, ap₂, ◌∙◌}
+use mathlib.Core.Path.{◌≡◌, refl, sym, ap, ◌∙◌}
 use mathlib.Core.List.Memᴰ
 use mathlib.Core.List.{List, [], map, Memᴰ}
 use mathlib.Core.Bool.{Bool, true, not, ◌&&◌}
-use lib.ListN.{length}
+use lib.ListN.{length, get_or}
+use Rattle.std.proofs.lemmas.List.{length-map}
 use lib.Dec.{eqb, ltb}
 use borrow.Author.Tests.{eq-eqb, eqb-true, ltb-true, lt-ltb}
 use Rattle.lists.specs.Lists.{empty, all, from, keep, any, among}
 use Rattle.lists.proofs.Mapping.{map_agree}
 use Rattle.lists.proofs.Booleans.{and_true_in, and_true_out, same_bool}
 use Rattle.lists.proofs.Elements.{all_member}
-use Rattle.lists.proofs.Keeping.{keep_agree, keep_out, keep_shorter}
-use Rattle.lists.proofs.Ranges.{from_low, from_rising, length_from, from_member, member_from}
-use Rattle.lists.proofs.Search.{any_in, any_out, any_map, all_in, all_agree, among_in, among_out}
-use Rattle.sets.specs.Set.{member}
-use Rattle.sets.specs.Inner.{states_in}
-use Rattle.sets.specs.Inner.{Has}
-use Rattle.sets.proofs.StateSets.{states_low}
+use Rattle.lists.proofs.Keeping.{keep_agree, keep_in, keep_out}
+use Rattle.lists.proofs.Ranges.{from_low, from_rising, from_member, member_from}
+use Rattle.lists.proofs.Rising.{rising_length}
+use Rattle.lists.proofs.Search.{any_in, any_out, any_map, all_in, among_in, among_out}
+use Rattle.sets.specs.Set.{member, meet_of}
+use Rattle.sets.specs.Inner.{Has, states_in}
+use Rattle.sets.proofs.StateSets.{member_meet}
 use Rattle.automaton.specs.Automaton.{Rule, Automaton, WellFormed, WellFormedRule, renamed}
-use Rattle.automaton.specs.Row.{rule_at, rules_in}
+use Rattle.automaton.specs.Row.{rule_of, rules_of, rule_at}
+use Rattle.automaton.specs.declared.row.Row.{Row}
 use Rattle.automaton.proofs.Rows.{rule_in_lem}
+use Rattle.indexing.proofs.Indexing.{rules_numbered}
 use Rattle.refinement.specs.Simulation.{Relation}
+use Rattle.refinement.specs.Inner.{Simulable}
 use Rattle.stages.specs.Steps.{Stage, closure, buildable, productive, names_only, trimmed, below, equivalent, first_of, representative}
-use Rattle.stages.specs.Steps.{same_rule, firsts, quotient, dominated_by, dominated, pruned, needed, kept, restricted, position}
+use Rattle.stages.specs.Steps.{same_rule, firsts, quotient, dominated_by, dominated, needed, kept, restricted, position, numbered}
 use Rattle.stages.specs.Inner.{Sound}
+use Rattle.stages.proofs.Closure.{closure_states}
 use Rattle.stages.proofs.Firsts.{firsts_in, firsts_places}
-use Rattle.stages.proofs.Quotient.{below_reflexive, first_same, final_representative, representative_final, quotient_states, quotient_sound}
-use Rattle.stages.proofs.Restricting.{kept_states, children_kept, restricted_sound}
+use Rattle.stages.proofs.Trimming.{trimmed_sound}
+use Rattle.stages.proofs.Quotient.{below_reflexive, first_same, final_representative, representative_final, representative_state}
+use Rattle.stages.proofs.Quotient.{quotient_states, quotient_sound}
+use Rattle.stages.proofs.Restricting.{kept_states, finals_kept, children_kept, restricted_sound}
 use Rattle.stages.proofs.Numbering.{position_low, positions_rising}
-use Rattle.reduction.specs.Inner.{name_in, marked, goes_for, stays, Holds, adds, grows}
-use Rattle.reduction.specs.declared.growth.Way.TheVariants.{Up, Down}
-use Rattle.reduction.specs.declared.marking.Why.TheVariants.{Repeated, Dominated}
-use Rattle.reduction.proofs.steps.StageArrays.{marked_rules, kept_rules, set_states, renamed_agree}
+use Rattle.reduction.specs.Inner.{name_in, marked, repeats, dominates, stays, grows}
+use Rattle.reduction.proofs.steps.StageSets.{states_out, set_states, kept_rows, renamed_agree}
 
--- Steps 1 and 5.
+-- Step 1: up from no state, the set that grows has the productive states.
 
-pub named_rules : (rows : List ℕ) (k : ℕ) (S : Stage) → Sound S → rules_in rows k ≡ S.rules → (states xs : List ℕ) → Has states (among xs)
-    → (marks : List Bool)
-    → ((i : ℕ) → i < k → marked marks i ≡ (member states (rule_at rows i).target && all (member states) (rule_at rows i).children))
-    → map (rule_at rows) (keep (marked marks) (from 0 k)) ≡ keep (names_only xs) S.rules
-unfolding names_only
-named_rules rows k S sound e states xs has marks h =
-    rw e at (kept_rules rows k marks (names_only xs) (λ i l.
-    let m = rw e at (rule_in_lem rows k i l) in
-    h i l ∙ ap₂ ◌&&◌ (has (rule_at rows i).target (all_member sound.low (sound.targets _ m)))
-    (all_agree (member states) (among xs) (rule_at rows i).children (λ q n. has q (all_member sound.low (sound.children _ m q n))))))
+abbrev pub up : (ℕ → Bool) → Rule → ℕ → Bool
+up set u q = eqb u.target q && all set u.children
 
--- Up from no state, the set that grows has the productive states.
 module _ (A : Automaton) (w : WellFormed A) where
   abbrev pub without_finals : Stage
   without_finals = record { states = from 0 A.states; finals = []; rules = A.rules }
@@ -70,154 +66,244 @@ module _ (A : Automaton) (w : WellFormed A) where
     children = λ u m q n. state_of q (all_member (formed u m).children n);
   }
 
-  pub trimmed_left : (states next : List ℕ) (k : ℕ)
-      → Has states (among (closure (grows Up without_finals) without_finals.states))
-      × (rules_in next k ≡ keep (names_only (closure (grows Up without_finals) without_finals.states)) without_finals.rules)
-      → Has states (among (productive A)) × (rules_in next k ≡ (trimmed A).rules)
-  unfolding productive buildable trimmed grows adds among any
-  trimmed_left states next k left = left
+  module _ (finals words : List ℕ) (finals_are : states_in A.states finals ≡ A.finals)
+      (grown : Has words (among (closure (grows up without_finals) without_finals.states))) where
+    has_productive : Has words (among (productive A))
+    unfolding productive buildable grows among any
+    has_productive = grown
 
--- Down from the final states, it has those that step 5 keeps.
-pub restricted_left : (S : Stage) → Sound S → (states next : List ℕ) (k : ℕ)
-    → Has states (among (closure (grows Down S) S.states))
-    × (rules_in next k ≡ keep (names_only (closure (grows Down S) S.states)) S.rules)
-    → Has states (among (kept S)) × (rules_in next k ≡ (restricted S).rules)
-unfolding kept needed restricted grows adds names_only
-restricted_left S sound states next k (has, rules) = (
-  has,
-  rules ∙ keep_agree (names_only (kept S)) (λ (u : Rule). among (kept S) u.target) S.rules (λ u m. same_bool
+    states_are : states_in 256 words ≡ (trimmed A).states
+    unfolding trimmed
+    states_are =
+        set_states words (productive A) 256 (omega arith) (trimmed_sound A w).rising (λ q m. all_member (trimmed_sound A w).low m)
+        has_productive
+
+    final_out : (q : ℕ) → Memᴰ q A.finals → member finals q ≡ true
+    unfolding states_in
+    final_out q m = (keep_out (member finals) (from 0 A.states) (rw finals_are m)).1
+
+    final_there : (q : ℕ) → (member finals q && among (productive A) q) ≡ true → among (trimmed A).finals q ≡ true
+    unfolding trimmed states_in productive
+    final_there q h =
+        let (final, kept) = and_true_out (member finals q) (among (productive A) q) h in
+        let low = member_from A.states 0 q (closure_states _ (from 0 A.states) q (among_out (productive A) q kept)) in
+        among_in (keep_in (among (productive A))
+        (rw finals_are at (keep_in (member finals) (from_member A.states 0 q (omega arith) (omega arith)) final)) kept)
+
+    final_back : (q : ℕ) → among (trimmed A).finals q ≡ true → (member finals q && among (productive A) q) ≡ true
+    unfolding trimmed
+    final_back q h =
+        let (final, kept) = keep_out (among (productive A)) A.finals (among_out _ q h) in
+        and_true_in (final_out q final) kept
+
+    has_finals : Has (meet_of finals words) (among (trimmed A).finals)
+    has_finals q l =
+        member_meet finals words q l ∙ ap (λ (t : Bool). member finals q && t) (has_productive q l)
+        ∙ same_bool (final_there q) (final_back q)
+
+    pub trimmed_is : (record {
+      states = states_in 256 words;
+      finals = states_in 256 (meet_of finals words);
+      rules = keep (names_only (states_in 256 words)) A.rules;
+    }) ≡ trimmed A
+    unfolding trimmed
+    trimmed_is =
+        let last : states_in 256 (meet_of finals words) ≡ (trimmed A).finals =
+        set_states (meet_of finals words) (trimmed A).finals 256 (omega arith) (trimmed_sound A w).finals_rising
+        (λ q m. all_member (trimmed_sound A w).low ((trimmed_sound A w).finals q m)) has_finals in
+        rw (states_are, last) refl
+
+  arity : (u : Rule) → Memᴰ u (trimmed A).rules → length u.children ≡ get_or A.ranks u.symbol 0
+  unfolding trimmed
+  arity u m = (formed u (keep_out _ A.rules m).0).arity
+
+  -- What step 2 asks.
+  pub trimmed_simulable : Simulable (trimmed A).rules (trimmed A).states
+  trimmed_simulable = record {
+    targets = (trimmed_sound A w).targets;
+    children = (trimmed_sound A w).children;
+    arity = λ u v m n same. arity u m ∙ ap (λ (f : ℕ). get_or A.ranks f 0) same ∙ sym (arity v n);
+  }
+
+-- Step 5: down from the final states, it has those that the step keeps.
+
+abbrev pub down : (ℕ → Bool) → Rule → ℕ → Bool
+down set u q = set u.target && among u.children q
+
+module _ (S : Stage) (sound : Sound S) (words : List ℕ) (grown : Has words (among (closure (grows down S) S.states))) where
+  pub kept_is : states_in 256 words ≡ kept S
+  unfolding kept needed grows restricted
+  kept_is =
+      set_states words (kept S) 256 (omega arith) (restricted_sound S sound).rising
+      (λ q m. all_member sound.low (kept_states S sound q m)) grown
+
+  pub finals_grown : (q : ℕ) → Memᴰ q S.finals → Memᴰ q (states_in 256 words)
+  finals_grown q m = rw kept_is (finals_kept S sound q m)
+
+  pub restricted_is : (record {
+    states = states_in 256 words;
+    finals = S.finals;
+    rules = keep (names_only (states_in 256 words)) S.rules;
+  }) ≡ restricted S
+  unfolding restricted names_only
+  restricted_is =
+      let rules_are : keep (names_only (kept S)) S.rules ≡ keep (λ (u : Rule). among (kept S) u.target) S.rules =
+      keep_agree (names_only (kept S)) (λ (u : Rule). among (kept S) u.target) S.rules (λ u m. same_bool
       (λ h. (and_true_out (among (kept S) u.target) _ h).0)
       (λ h. and_true_in h (all_in (among (kept S)) u.children
-      (λ q n. among_in (children_kept S sound u m (among_out (kept S) u.target h) q n))))),
-)
+      (λ q n. among_in (children_kept S sound u m (among_out (kept S) u.target h) q n))))) in
+      rw (kept_is, rules_are) refl
 
--- Steps 3 and 4: of equal rules the first stays, and no dominated one.
+-- Step 3: of equal rules the first stays.
 
-first_stays : (R : Relation) (rows : List ℕ) (k i : ℕ) → i < k
-    → stays Repeated R rows k i ≡ not (any (λ (j : ℕ). same_rule (rule_at rows j) (rule_at rows i)) (from 0 i))
-unfolding stays goes_for
-first_stays R rows k i l =
-    let same : ℕ → Bool = λ j. same_rule (rule_at rows j) (rule_at rows i) in
+first_stays : (R : Relation) (rules : List Rule) (i : ℕ) → i < length rules
+    → stays repeats R rules i ≡ not (any (λ (j : ℕ). same_rule (rule_at rules j) (rule_at rules i)) (from 0 i))
+unfolding stays repeats
+first_stays R rules i l =
+    let same : ℕ → Bool = λ j. same_rule (rule_at rules j) (rule_at rules i) in
     let earlier : ℕ → Bool = λ j. ltb j i && same j in
     ap not (same_bool
-    (λ h. let f = any_out earlier (from 0 k) h in
+    (λ h. let f = any_out earlier (from 0 (length rules)) h in
     let (before, is) = and_true_out (ltb f.element i) (same f.element) f.passes in
     any_in same (from_member i 0 f.element (omega arith) (omega (arith, ltb-true f.element i before))) is)
     (λ h. let f = any_out same (from 0 i) h in
     let (low, high) = member_from i 0 f.element f.member in
-    any_in earlier (from_member k 0 f.element (omega arith) (omega arith))
+    any_in earlier (from_member (length rules) 0 f.element (omega arith) (omega arith))
     (and_true_in (lt-ltb f.element i (omega arith)) f.passes)))
 
-pub pruned_rules : (R : Relation) (rows : List ℕ) (k : ℕ) (marks : List Bool)
-    → ((i : ℕ) → i < k → marked marks i ≡ stays Dominated R rows k i) → (S : Stage) → rules_in rows k ≡ S.rules
-    → map (rule_at rows) (keep (marked marks) (from 0 k)) ≡ (pruned R S).rules
-unfolding stays goes_for dominated rules_in pruned
-pruned_rules R rows k marks h S e =
-    kept_rules rows k marks (λ (u : Rule). not (dominated R (rules_in rows k) u))
-    (λ i l. h i l ∙ ap not (sym (any_map (dominated_by R (rule_at rows i)) (rule_at rows) (from 0 k))))
-    ∙ ap (λ (us : List Rule). keep (λ (u : Rule). not (dominated R us u)) us) e
+first_rows : (R : Relation) (rows : List Row) (marks : List Bool)
+    → ((i : ℕ) → i < length rows → marked marks i ≡ stays repeats R (rules_of rows) i)
+    → map (rule_at (rules_of rows)) (keep (marked marks) (from 0 (length rows))) ≡ firsts (rules_of rows)
+first_rows R rows marks h =
+    let rules = rules_of rows in
+    let k = length rows in
+    let count : length rules ≡ k = length-map rows rule_of in
+    ap (map (rule_at rules)) (keep_agree (marked marks) _ (from 0 k)
+    (λ i m. let b = member_from k 0 i m in
+    h i (omega arith) ∙ first_stays R rules i (omega (arith, count))))
+    ∙ firsts_places (rule_at rules) k ∙ ap firsts (ap (λ (n : ℕ). map (rule_at rules) (from 0 n)) (sym count) ∙ rules_numbered rules)
 
-module _ (S : Stage) (n : ℕ) (finals rows : List ℕ) (k : ℕ) (holds : Holds S n finals rows k) where
-  quotient_below : (q : ℕ) → Memᴰ q (quotient (below S) S).states → q < n
-  quotient_below q m = holds.low q (quotient_states S holds.sound q m)
+module _ (states finals : List ℕ) (rules : List Rule) where
+  abbrev pub stage : Stage
+  stage = record { states = states_in 256 states; finals = states_in 256 finals; rules = rules }
 
-  -- The names after step 3's first call.
-  module _ (names : List ℕ)
-      (named : (q : ℕ) → q < n → equivalent (below S) q q ≡ true → name_in names q ≡ first_of (equivalent (below S) q) (from 0 256)) where
-    name_representative : (q : ℕ) → Memᴰ q S.states → name_in names q ≡ representative (below S) S.states q
-    unfolding equivalent
-    name_representative q m =
-        let r = below_reflexive S holds.sound q m in
-        named q (holds.low q m) (and_true_in r r) ∙ first_same S holds.sound q m
+  module _ (sound : Sound stage) (names : List ℕ)
+      (named : (q : ℕ) → q < 256 → member states q ≡ true → equivalent (below stage) q q ≡ true
+      → name_in names q ≡ first_of (equivalent (below stage) q) (from 0 256)) where
+    block_of : ℕ → ℕ
+    block_of = representative (below stage) stage.states
 
-    -- The rows after the rules are renamed.
-    module _ (next : List ℕ) (e : rules_in next k ≡ map (renamed (name_in names)) (rules_in rows k)) where
-      renamed_rules : rules_in next k ≡ map (renamed (representative (below S) S.states)) S.rules
-      renamed_rules =
-          e ∙ ap (map (renamed (name_in names))) holds.rules_are
-          ∙ renamed_agree (name_in names) (representative (below S) S.states) S holds.sound name_representative
+    name_block : (q : ℕ) → Memᴰ q stage.states → name_in names q ≡ block_of q
+    unfolding equivalent block_of
+    name_block q m =
+        let r = below_reflexive stage sound q m in
+        let (l, h) = states_out states q m in
+        named q l h (and_true_in r r) ∙ first_same stage sound q m
 
-      pub renamed_below : (i : ℕ) → i < k → (rule_at next i).target < n
-      unfolding quotient
-      renamed_below i h =
-          quotient_below _ ((quotient_sound S holds.sound).targets _ (firsts_in _ (rw renamed_rules at (rule_in_lem next k i h))))
+    block_self : (q : ℕ) → Memᴰ q (quotient (below stage) stage).states → block_of q ≡ q
+    unfolding quotient block_of
+    block_self q m = eqb-true (block_of q) q (keep_out _ stage.states m).1
 
-      grouped_rules : (R : Relation) (marks : List Bool) → ((i : ℕ) → i < k → marked marks i ≡ stays Repeated R next k i)
-          → map (rule_at next) (keep (marked marks) (from 0 k)) ≡ (quotient (below S) S).rules
-      unfolding quotient rules_in
-      grouped_rules R marks h =
-          marked_rules next k marks _ (λ i l. h i l ∙ first_stays R next k i l) ∙ firsts_places (rule_at next) k ∙ ap firsts renamed_rules
+    grouped_targets : (next : List Rule) → next ≡ map (renamed (name_in names)) rules
+        → next ≡ map (renamed (representative (below stage) stage.states)) rules
+    unfolding block_of
+    grouped_targets next e = e ∙ renamed_agree (name_in names) block_of stage sound name_block
 
-      grouped_finals : (set : List ℕ) → n ≤ 256
-          → Has set (λ (r : ℕ). any (λ (q : ℕ). eqb (name_in names q) r) (states_in n finals)) → Has set (among (quotient (below S) S).finals)
-      grouped_finals set few has r l =
-          let sound = holds.sound in
-          let finals_are : states_in n finals ≡ S.finals =
-          set_states finals S.finals n few sound.finals_rising (λ q m. holds.low q (sound.finals q m)) holds.finals_are in
-          has r l ∙ same_bool
-          (λ t. let f = any_out (λ (q : ℕ). eqb (name_in names q) r) S.finals (rw finals_are at t) in
-          let same : representative (below S) S.states f.element ≡ r =
-          sym (name_representative f.element (sound.finals _ f.member)) ∙ eqb-true (name_in names f.element) r f.passes in
-          among_in (rw same at (final_representative S sound f.element f.member)))
-          (λ t. let (f, m, e) = representative_final S sound r (among_out _ r t) in
-          rw finals_are (any_in (λ (q : ℕ). eqb (name_in names q) r) m
-          (eq-eqb (name_in names f) r (name_representative f (sound.finals f m) ∙ e))))
+    pub grouped_in : (next : List Rule) → next ≡ map (renamed (name_in names)) rules
+        → (u : Rule) → Memᴰ u next → Memᴰ u (quotient (below stage) stage).rules
+    unfolding quotient
+    grouped_in next e u m = firsts_in _ (rw (grouped_targets next e) at m)
 
-      pub holds_quotient : n ≤ 256 → (R : Relation) (marks : List Bool) → ((i : ℕ) → i < k → marked marks i ≡ stays Repeated R next k i)
-          → (set last : List ℕ) (left : ℕ) → rules_in last left ≡ map (rule_at next) (keep (marked marks) (from 0 k))
-          → Has set (λ (r : ℕ). any (λ (q : ℕ). eqb (name_in names q) r) (states_in n finals))
-          → Holds (quotient (below S) S) n set last left
-      holds_quotient few R marks h set last left rules has = record {
-        sound = quotient_sound S holds.sound;
-        low = quotient_below;
-        finals_are = grouped_finals set few has;
-        rules_are = rules ∙ grouped_rules R marks h;
-      }
+    grouped_states : (set : List ℕ) → Has set (λ (r : ℕ). any (λ (q : ℕ). eqb (name_in names q) r) stage.states)
+        → states_in 256 set ≡ (quotient (below stage) stage).states
+    unfolding block_of
+    grouped_states set has =
+        let left = quotient_sound stage sound in
+        set_states set (quotient (below stage) stage).states 256 (omega arith) left.rising (λ q m. all_member left.low m)
+        (λ r l. has r l ∙ same_bool
+        (λ t. let f = any_out (λ (q : ℕ). eqb (name_in names q) r) stage.states t in
+        let same : block_of f.element ≡ r = sym (name_block f.element f.member) ∙ eqb-true (name_in names f.element) r f.passes in
+        among_in (rw same at (representative_state stage sound f.element f.member)))
+        (λ t. let m = among_out _ r t in
+        let n = quotient_states stage sound r m in
+        any_in (λ (q : ℕ). eqb (name_in names q) r) n (eq-eqb (name_in names r) r (name_block r n ∙ block_self r m))))
 
--- The targets of the rules that a stage holds, and of what step 5 keeps of it the states, are below n.
+    grouped_finals : (set : List ℕ) → Has set (λ (r : ℕ). any (λ (q : ℕ). eqb (name_in names q) r) stage.finals)
+        → states_in 256 set ≡ (quotient (below stage) stage).finals
+    unfolding block_of
+    grouped_finals set has =
+        let left = quotient_sound stage sound in
+        set_states set (quotient (below stage) stage).finals 256 (omega arith) left.finals_rising (λ q m. all_member left.low (left.finals q m))
+        (λ r l. has r l ∙ same_bool
+        (λ t. let f = any_out (λ (q : ℕ). eqb (name_in names q) r) stage.finals t in
+        let same : block_of f.element ≡ r =
+        sym (name_block f.element (sound.finals _ f.member)) ∙ eqb-true (name_in names f.element) r f.passes in
+        among_in (rw same at (final_representative stage sound f.element f.member)))
+        (λ t. let (f, m, e) = representative_final stage sound r (among_out _ r t) in
+        any_in (λ (q : ℕ). eqb (name_in names q) r) m (eq-eqb (name_in names f) r (name_block f (sound.finals f m) ∙ e))))
 
-pub targets_below : (S : Stage) (n : ℕ) (finals rows : List ℕ) (k : ℕ) → Holds S n finals rows k
-    → (i : ℕ) → i < k → (rule_at rows i).target < n
-targets_below S n finals rows k holds i h =
-    holds.low _ (holds.sound.targets _ (rw holds.rules_are at (rule_in_lem rows k i h)))
+    pub grouped_is : (R : Relation) (next : List Row) (left : List Rule) (marks : List Bool) → rules_of next ≡ map (renamed (name_in names)) rules
+        → ((i : ℕ) → i < length next → marked marks i ≡ stays repeats R (rules_of next) i)
+        → left ≡ map (rule_at (rules_of next)) (keep (marked marks) (from 0 (length next)))
+        → (set last : List ℕ) → Has set (λ (r : ℕ). any (λ (q : ℕ). eqb (name_in names q) r) stage.states)
+        → Has last (λ (r : ℕ). any (λ (q : ℕ). eqb (name_in names q) r) stage.finals)
+        → (record { states = states_in 256 set; finals = states_in 256 last; rules = left }) ≡ quotient (below stage) stage
+    unfolding quotient
+    grouped_is R next left marks e marks_are rules_are set last has has_last =
+        let rules_left : left ≡ (quotient (below stage) stage).rules =
+        rules_are ∙ first_rows R next marks marks_are ∙ ap firsts (grouped_targets (rules_of next) e) in
+        rw (grouped_states set has, grouped_finals last has_last, rules_left) refl
 
-pub states_kept : (S : Stage) (n : ℕ) → n ≤ 256 → Sound S → ((q : ℕ) → Memᴰ q S.states → q < n) → (words : List ℕ)
-    → Has words (among (kept S)) → states_in n words ≡ (restricted S).states
-unfolding restricted
-states_kept S n few sound low words has =
-    set_states words (kept S) n few (restricted_sound S sound).rising (λ q m. low q (kept_states S sound q m)) has
+-- The targets of the rules that a stage has are below 256.
+pub targets_few : (rows : List Row) (S : Stage) → Sound S → ((u : Rule) → Memᴰ u (rules_of rows) → Memᴰ u S.rules)
+    → (i : ℕ) → i < length rows → (rule_at (rules_of rows) i).target < 256
+targets_few rows S sound inside i h =
+    let l : i < length (rules_of rows) = omega (arith, length-map rows rule_of) in
+    all_member sound.low (sound.targets _ (inside _ (rule_in_lem (rules_of rows) i l)))
+
+-- Step 4: no dominated rule stays.
+
+pub undominated_rows : (R : Relation) (rows : List Row) (marks : List Bool)
+    → ((i : ℕ) → i < length rows → marked marks i ≡ stays dominates R (rules_of rows) i)
+    → map (rule_at (rules_of rows)) (keep (marked marks) (from 0 (length rows)))
+    ≡ keep (λ (u : Rule). not (dominated R (rules_of rows) u)) (rules_of rows)
+unfolding stays dominates dominated
+undominated_rows R rows marks h =
+    let rules = rules_of rows in
+    kept_rows rows marks (λ (u : Rule). not (dominated R rules u))
+    (λ i l. h i l ∙ ap not (sym (any_map (dominated_by R (rule_at rules i)) (rule_at rules) (from 0 (length rules)))
+    ∙ ap (any (dominated_by R (rule_at rules i))) (rules_numbered rules)))
 
 -- Step 6.
 
-module _ (n : ℕ) (few : n ≤ 256) (states finals : List ℕ) (S : Stage) (sound : Sound S) (e : states_in n states ≡ S.states)
-    (has : Has finals (among S.finals)) (names : List ℕ)
-    (named : (q : ℕ) → q < n → member states q ≡ true → name_in names q ≡ position (states_in n states) q) where
-  member_below : (q : ℕ) → Memᴰ q S.states → (member states q ≡ true) × (q < n)
-  unfolding states_in
-  member_below q m =
-      let inside = rw (sym e) at m in
-      ((keep_out (member states) (from 0 n) inside).1, states_low n states q inside)
+module _ (states finals : List ℕ) (rules : List Rule) (sound : Sound (stage states finals rules)) (names : List ℕ)
+    (named : (q : ℕ) → q < 256 → member states q ≡ true → name_in names q ≡ position (states_in 256 states) q) where
+  abbrev left : Stage
+  left = stage states finals rules
 
-  name_position : (q : ℕ) → Memᴰ q S.states → name_in names q ≡ position S.states q
-  name_position q m = let (is, low) = member_below q m in named q low is ∙ ap (λ (xs : List ℕ). position xs q) e
+  name_position : (q : ℕ) → Memᴰ q left.states → name_in names q ≡ position left.states q
+  name_position q m = let (l, h) = states_out states q m in named q l h
 
-  pub numbered_rules : map (renamed (name_in names)) S.rules ≡ map (renamed (position S.states)) S.rules
-  numbered_rules = renamed_agree (name_in names) (position S.states) S sound name_position
-
-  pub numbered_finals : (set : List ℕ) (count : ℕ) → count ≡ length (states_in n states)
-      → Has set (λ (r : ℕ). any (λ (q : ℕ). eqb (name_in names q) r) (states_in n finals))
-      → states_in count set ≡ map (position S.states) S.finals
-  unfolding states_in among
-  numbered_finals set count c h =
-      let size : count ≡ length S.states = c ∙ ap length e in
-      let short = keep_shorter (member states) (from 0 n) in
-      let finals_are : states_in n finals ≡ S.finals =
-      set_states finals S.finals n few sound.finals_rising (λ q m. (member_below q (sound.finals q m)).1) has in
-      set_states set (map (position S.states) S.finals) count (omega (arith, length_from 0 n))
-      (positions_rising S.states sound.rising S.finals sound.finals_rising sound.finals)
-      (λ i m. let (q, o, f) = Memᴰ.of_map (position S.states) S.finals m in
-      rw (← f, size) (position_low S.states sound.rising q (sound.finals q o)))
-      (λ r l. h r l ∙ ap (any (λ (q : ℕ). eqb (name_in names q) r)) finals_are
-      ∙ sym (any_map (λ (i : ℕ). eqb i r) (name_in names) S.finals)
+  numbered_finals : (set : List ℕ) → Has set (λ (r : ℕ). any (λ (q : ℕ). eqb (name_in names q) r) left.finals)
+      → states_in (length left.states) set ≡ map (position left.states) left.finals
+  unfolding among
+  numbered_finals set h =
+      set_states set (map (position left.states) left.finals) (length left.states)
+      (rising_length sound.rising sound.low)
+      (positions_rising left.states sound.rising left.finals sound.finals_rising sound.finals)
+      (λ i m. let (q, o, f) = Memᴰ.of_map (position left.states) left.finals m in
+      rw (← f) (position_low left.states sound.rising q (sound.finals q o)))
+      (λ r l. h r l
+      ∙ sym (any_map (λ (i : ℕ). eqb i r) (name_in names) left.finals)
       ∙ ap (any (λ (i : ℕ). eqb i r))
-      (map_agree (name_in names) (position S.states) S.finals (λ q m. name_position q (sound.finals q m))))
+      (map_agree (name_in names) (position left.states) left.finals (λ q m. name_position q (sound.finals q m))))
+
+  pub numbered_is : (ranks set : List ℕ) (count : ℕ) (next : List Rule) → count ≡ length left.states
+      → next ≡ map (renamed (name_in names)) rules
+      → Has set (λ (r : ℕ). any (λ (q : ℕ). eqb (name_in names q) r) left.finals)
+      → (record { states = count; ranks = ranks; finals = states_in count set; rules = next }) ≡ numbered ranks left
+  unfolding numbered
+  numbered_is ranks set count next c e h =
+      let rules_are : next ≡ map (renamed (position left.states)) rules =
+      e ∙ renamed_agree (name_in names) (position left.states) left sound name_position in
+      rw (c, rules_are, numbered_finals set h) refl

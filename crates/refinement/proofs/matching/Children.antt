@@ -1,11 +1,11 @@
--- The children of two rules, pair by pair from a place on: for the loop of `paired`.
-use Prim.Native.Nat.{ℕ, suc, ◌+◌, ◌≤◌, ◌<◌}
+-- The children of two rules, pair by pair: for the chain in `pairs`.
+use Prim.Native.Nat.{ℕ}
+use native.Mathlib.Omega.{arith}
 use mathlib.Core.Path.{◌≡◌, refl, ap}
 use mathlib.Core.List.{List, [], ◌∷◌}
-use mathlib.Core.Bool.{true, false, ◌&&◌}
-use native.Mathlib.Numerals.{add-one}
-use lib.ListN.{length, get_or, drop, drop_of_length-le}
-use lib.Seq.{drop-cons}
+use mathlib.Core.Bool.{Bool, false, ◌&&◌}
+use lib.ListN.{length}
+use Rattle.std.specs.List.{list_all, zip}
 use Rattle.lists.proofs.Booleans.{and_false_right}
 use Rattle.refinement.specs.Simulation.{Relation, related, paired}
 
@@ -14,14 +14,12 @@ unfolding paired
 paired_other R [] [] d = absurd (d refl)
 paired_other R [] (r ∷ rs) d = refl
 paired_other R (q ∷ qs) [] d = refl
-paired_other R (q ∷ qs) (r ∷ rs) d = and_false_right (related R q r) (paired_other R qs rs (λ e. d (ap suc e)))
+paired_other R (q ∷ qs) (r ∷ rs) d = and_false_right (related R q r) (paired_other R qs rs (λ e. d (omega arith)))
 
-module _ (R : Relation) (qs rs : List ℕ) (j : ℕ) where
-  pub paired_next : j < length qs → j < length rs
-      → paired R (drop j qs) (drop j rs) ≡ (related R (get_or qs j 0) (get_or rs j 0) && paired R (drop (j + 1) qs) (drop (j + 1) rs))
-  unfolding paired
-  paired_next h l = rw (add-one, drop-cons qs j 0 h, drop-cons rs j 0 l)
-
-  pub paired_end : length qs ≤ j → length rs ≤ j → paired R (drop j qs) (drop j rs) ≡ true
-  unfolding paired
-  paired_end h l = rw (drop_of_length-le qs h, drop_of_length-le rs l)
+pub paired_zip : (R : Relation) (qs rs : List ℕ) → length qs ≡ length rs
+    → list_all (λ (p : ℕ × ℕ). related R p.0 p.1) (zip qs rs) ≡ paired R qs rs
+unfolding paired
+paired_zip R [] [] e = refl
+paired_zip R [] (r ∷ rs) e = absurd (omega arith)
+paired_zip R (q ∷ qs) [] e = absurd (omega arith)
+paired_zip R (q ∷ qs) (r ∷ rs) e = ap (λ (t : Bool). related R q r && t) (paired_zip R qs rs (omega arith))

@@ -6,20 +6,20 @@ use native.Mathlib.Numerals.{add-one}
 use native.Mathlib.Omega.{arith}
 use mathlib.Core.Path.{◌≡◌, refl, sym, ap, ap₂, ◌∙◌}
 use mathlib.Core.List.{List, [], ◌∷◌, Memᴰ}
-use mathlib.Core.Bool.{Bool, true, false, not, ◌&&◌, and-true}
-use lib.ListN.{length, get_or}
+use mathlib.Core.Bool.{Bool, true, false, not, ◌&&◌, and-true, true≢false}
+use lib.ListN.{length}
 use lib.Dec.{eqb, ltb}
 use borrow.Author.Tests.{eq-eqb, ne_eqb, ltb-true, ltb-false, lt-ltb, le-ltb}
 use Rattle.lists.specs.Lists.{from}
 use Rattle.lists.proofs.Overwriting.{kept_few}
 use Rattle.lists.proofs.Ranges.{member_from}
-use Rattle.lists.proofs.Booleans.{and_false_left, and_false_right, and_same, never_true}
+use Rattle.lists.proofs.Booleans.{and_false_left, and_same, never_true}
 use Rattle.lists.proofs.Search.{any_none_out, any_agree, all_in, all_out}
 use Rattle.sets.specs.Set.{member, empty_set, same_set}
-use Rattle.sets.specs.Inner.{with_all, set_of, states_in}
 use Rattle.sets.specs.Entries.{entry_at}
-use Rattle.sets.specs.Inner.{Has, Below}
-use Rattle.sets.proofs.StateSets.{member_empty, length_set_of, same_set_out, Bounded, bounded_set_of, sets_differ}
+use Rattle.sets.specs.Inner.{with_all, set_of, states_in, Has, Below}
+use Rattle.sets.specs.declared.set.StateSet.{StateSet}
+use Rattle.sets.proofs.StateSets.{member_empty, length_set_of, same_set_out, bounded_set_of, sets_differ}
 use Rattle.automaton.specs.Automaton.{Rule}
 use Rattle.refinement.specs.Simulation.{Relation, related, paired, matched_by, matched, survives, refine, all_pairs, relation_at, rounds}
 use Rattle.refinement.specs.Simulation.{relation}
@@ -59,7 +59,7 @@ quiet_refined rules last next changed is same u m untouched r e =
     ∙ rw (eq-eqb u.target u.target refl) at (all_out _ before.1 u m)
 
 -- Rows that have the same states relate the same.
-pub rows_related : (last next : List ℕ) (q : ℕ) → Has (entry_at next q) (member (entry_at last q))
+pub rows_related : (last next : List StateSet) (q : ℕ) → Has (entry_at next q) (member (entry_at last q))
     → (r : ℕ) → related (relation_in last) q r ≡ related (relation_in next) q r
 unfolding relation_in
 rows_related last next q same r =
@@ -72,115 +72,113 @@ rows_related last next q same r =
 
 -- Round j is before the last where the set of the states whose rows change in it is not empty.
 module _ (rules : List Rule) (states : List ℕ) (j : ℕ) (early : j ≤ rounds rules states) (R : Relation) (is : R ≡ relation_at rules states j)
-    (changed : List ℕ) (four : length changed ≡ 4) (bounded : Bounded changed) where
-  pub changed_more : (((q : ℕ) → q < 256 → member changed q ≡ false) → refine rules R ≡ R)
-      → (refine rules R ≡ R → (q : ℕ) → q < 256 → member changed q ≡ true → ⊥)
-      → not (same_set changed empty_set) ≡ ltb j (rounds rules states)
+    (changed : StateSet) where
+  pub changed_more : (((q : ℕ) → q < 256 → member changed.words q ≡ false) → refine rules R ≡ R)
+      → (refine rules R ≡ R → (q : ℕ) → q < 256 → member changed.words q ≡ true → ⊥)
+      → not (same_set changed.words empty_set) ≡ ltb j (rounds rules states)
   unfolding relation_at set_of with_all
-  changed_more unchanged-fixed fixed-unchanged = go (same_set changed empty_set) refl
+  changed_more unchanged-fixed fixed-unchanged = go (same_set changed.words empty_set) refl
     where
-      go : (t : Bool) → same_set changed empty_set ≡ t → not t ≡ ltb j (rounds rules states)
+      go : (t : Bool) → same_set changed.words empty_set ≡ t → not t ≡ ltb j (rounds rules states)
       go true e =
-          let empty : changed ≡ empty_set = same_set_out changed empty_set four (length_set_of []) e in
+          let empty : changed.words ≡ empty_set = same_set_out changed.words empty_set changed.four (length_set_of []) e in
           let fixed = unchanged-fixed (λ q h. ap (λ (l : List ℕ). member l q) empty ∙ member_empty q h) in
           let last : j < rounds rules states → ⊥ = λ b. rounds_least rules states j b (rw is at fixed) in
           sym (le-ltb j (rounds rules states) (omega arith))
       go false e =
           let other : j ≡ rounds rules states → ⊥ = λ last.
-          sets_differ changed empty_set four (length_set_of []) bounded (bounded_set_of []) e (λ q h.
+          sets_differ changed.words empty_set changed.four (length_set_of []) changed.bits (bounded_set_of []) e (λ q h.
           never_true (fixed-unchanged (rw (is, last) (rounds_fixed rules states)) q h) ∙ sym (member_empty q h)) in
           sym (lt-ltb j (rounds rules states) (omega arith))
 
--- What holds after j rounds and one: the words hold the next relation, and a state is in the set where its row changed in the last of them.
-pub record Going (n : ℕ) (rules : List Rule) (states words : List ℕ) (next : List (List ℕ)) (changed : List ℕ) (j : ℕ) : Type 0 where
+-- What holds after j rounds and one: the rows hold the next relation, and a state is in the set where its row changed in the last of them.
+pub record Going (n : ℕ) (set : List ℕ) (rules : List Rule) (states : List ℕ) (rows next : List StateSet) (changed : List ℕ) (j : ℕ) : Type 0 where
   pub early : j ≤ rounds rules states
-  pub holds : relation_in words ≡ relation_at rules states (suc j)
-  pub quiet : Quiet rules rules (relation_in words) (touches changed)
+  pub holds : relation_in rows ≡ relation_at rules states (suc j)
+  pub quiet : Quiet rules rules (relation_in rows) (touches changed)
   pub more : not (same_set changed empty_set) ≡ ltb j (rounds rules states)
-  pub copied : Copied n words next
-  pub low : RowsBelow n words
+  pub copied : Copied set rows next
+  pub low : RowsBelow n rows
 
 -- The changed rows of the next relation in the place of the last ones.
-module _ (n : ℕ) (rules : List Rule) (words after : List ℕ) (next : List (List ℕ)) (lost : List ℕ) (small : n ≤ 256)
-    (targets : (u : Rule) → Memᴰ u rules → u.target < n)
-    (round : Rounded n (answers rules rules (relation_in words)) words next lost)
-    (put : (q : ℕ) → q < 256 → (ltb q n && member lost q) ≡ true → entry_at after q ≡ get_or next q [])
-    (stay : (q : ℕ) → q < 256 → (ltb q n && member lost q) ≡ false → entry_at after q ≡ entry_at words q) where
+module _ (n : ℕ) (set : List ℕ) (rules : List Rule) (rows after next : List StateSet) (lost : StateSet)
+    (targets : (u : Rule) → Memᴰ u rules → member set u.target ≡ true)
+    (round : Rounded set (answers rules rules (relation_in rows)) rows next lost.words)
+    (put : (q : ℕ) → q < 256 → member lost.words q ≡ true → entry_at after q ≡ entry_at next q)
+    (stay : (q : ℕ) → q < 256 → member lost.words q ≡ false → entry_at after q ≡ entry_at rows q) where
   abbrev R : Relation
-  R = relation_in words
+  R = relation_in rows
 
-  put_copied : Copied n after next
+  put_copied : Copied set after next
   unfolding Copied
-  put_copied q h = go (member lost q) refl
+  put_copied q h m = go (member lost.words q) refl
     where
-      go : (t : Bool) → member lost q ≡ t → get_or next q [] ≡ entry_at after q
-      go true e = sym (put q (omega arith) (rw (lt-ltb q n h) e))
-      go false e = round.same q h e ∙ sym (stay q (omega arith) (and_false_right (ltb q n) e))
+      go : (t : Bool) → member lost.words q ≡ t → entry_at next q ≡ entry_at after q
+      go true e = sym (put q h e)
+      go false e = round.same q h m e ∙ sym (stay q h e)
 
-  next_row : (q : ℕ) → q < n → Has (get_or next q []) (related (refine rules R) q)
+  next_row : (q : ℕ) → q < 256 → member set q ≡ true → Has (entry_at next q) (related (refine rules R) q)
   unfolding survives answers
-  next_row q h r b =
-      round.rows q h r b
-      ∙ sym (refine_related rules R q r ∙ ap (λ (t : Bool). t && survives rules R (q, r)) (related_in words q r (omega arith) b))
+  next_row q h m r b =
+      round.next_rows q h m r b
+      ∙ sym (refine_related rules R q r ∙ ap (λ (t : Bool). t && survives rules R (q, r)) (related_in rows q r h b))
 
   -- A state that is no rule's target keeps its row.
-  no_target : (q r : ℕ) → n ≤ q → survives rules R (q, r) ≡ true
+  no_target : (q r : ℕ) → member set q ≡ false → survives rules R (q, r) ≡ true
   unfolding survives
-  no_target q r h =
-      all_in _ rules (λ u m. rw (ne_eqb u.target q (λ e. omega (arith, targets u m))))
+  no_target q r out =
+      all_in _ rules (λ u m. rw (ne_eqb u.target q (λ e. true≢false (sym (targets u m) ∙ ap (member set) e ∙ out))))
 
   put_refined : relation_in after ≡ refine rules R
   unfolding Copied
-  put_refined = relation_next rules words after (λ q h r b. go q h r b (ltb q n) refl)
+  put_refined = relation_next rules rows after (λ q h r b. go q h r b (member set q) refl)
     where
-      go : (q : ℕ) → q < 256 → (r : ℕ) → r < 256 → (t : Bool) → ltb q n ≡ t → member (entry_at after q) r ≡ related (refine rules R) q r
-      go q h r b true e =
-          let l = ltb-true q n e in
-          ap (λ (row : List ℕ). member row r) (sym (put_copied q l)) ∙ next_row q l r b
+      go : (q : ℕ) → q < 256 → (r : ℕ) → r < 256 → (t : Bool) → member set q ≡ t → member (entry_at after q) r ≡ related (refine rules R) q r
+      go q h r b true e = ap (λ (row : List ℕ). member row r) (sym (put_copied q h e)) ∙ next_row q h e r b
       go q h r b false e =
-          ap (λ (row : List ℕ). member row r) (stay q h (and_false_left (member lost q) e)) ∙ sym (related_in words q r h b)
-          ∙ sym (refine_related rules R q r ∙ rw (no_target q r (ltb-false q n e), and-true (related R q r)))
+          let on : member lost.words q ≡ false = never_true (λ l. true≢false (sym (round.fewer q h l).0 ∙ e)) in
+          ap (λ (row : List ℕ). member row r) (stay q h on) ∙ sym (related_in rows q r h b)
+          ∙ sym (refine_related rules R q r ∙ rw (no_target q r e, and-true (related R q r)))
 
-  put_low : RowsBelow n words → RowsBelow n after
+  put_low : RowsBelow n rows → RowsBelow n after
   unfolding RowsBelow Below
   put_low low q h r l b =
       sym (related_in after q r h b) ∙ ap (λ (S : Relation). related S q r) put_refined ∙ refine_related rules R q r
-      ∙ and_false_left (survives rules R (q, r)) (related_in words q r h b ∙ low q h r l b)
+      ∙ and_false_left (survives rules R (q, r)) (related_in rows q r h b ∙ low q h r l b)
 
   put_quiet : ((u : Rule) → Memᴰ u rules → (q : ℕ) → Memᴰ q u.children → q < 256)
-      → Quiet rules rules (relation_in after) (touches lost)
+      → Quiet rules rules (relation_in after) (touches lost.words)
   put_quiet children =
-      quiet_refined rules R (relation_in after) lost put_refined (λ u m q c e.
-      rows_related words after q (λ r b.
-      ap (λ (row : List ℕ). member row r) (stay q (children u m q c) (and_false_right (ltb q n) e))))
+      quiet_refined rules R (relation_in after) lost.words put_refined (λ u m q c e.
+      rows_related rows after q (λ r b. ap (λ (row : List ℕ). member row r) (stay q (children u m q c) e)))
 
   -- A row that lost a state is another one.
-  put_other : refine rules R ≡ R → (q : ℕ) → q < 256 → member lost q ≡ true → ⊥
+  put_other : refine rules R ≡ R → (q : ℕ) → q < 256 → member lost.words q ≡ true → ⊥
   put_other fixed q h e =
       let f = round.fewer q h e in
-      f.1 (λ r b m. next_row q f.0 r b ∙ ap (λ (S : Relation). related S q r) fixed ∙ related_in words q r h b ∙ m)
+      f.1 (λ r b m. next_row q h f.0 r b ∙ ap (λ (S : Relation). related S q r) fixed ∙ related_in rows q r h b ∙ m)
 
-  pub going_next : (states : List ℕ) (before : List (List ℕ)) (changed : List ℕ) (j : ℕ)
-      → ((u : Rule) → Memᴰ u rules → (q : ℕ) → Memᴰ q u.children → q < 256) → length lost ≡ 4 → Bounded lost
-      → Going n rules states words before changed j → not (same_set changed empty_set) ≡ true → Going n rules states after next lost (j + 1)
+  pub going_next : (states : List ℕ) (before : List StateSet) (changed : List ℕ) (j : ℕ)
+      → ((u : Rule) → Memᴰ u rules → (q : ℕ) → Memᴰ q u.children → q < 256)
+      → Going n set rules states rows before changed j → not (same_set changed empty_set) ≡ true
+      → Going n set rules states after next lost.words (j + 1)
   unfolding relation_at
-  going_next states before changed j children four bounded g some =
+  going_next states before changed j children g some =
       let early : j + 1 ≤ rounds rules states = omega (arith, ltb-true j (rounds rules states) (sym g.more ∙ some)) in
       let is : R ≡ relation_at rules states (j + 1) = rw add-one g.holds in
       record {
         early = early;
         holds = put_refined ∙ ap (refine rules) is;
         quiet = put_quiet children;
-        more = changed_more rules states (j + 1) early R is lost four bounded
-            (λ none. sym put_refined ∙ relation_same words after (λ q h r b.
-            ap (λ (row : List ℕ). member row r) (stay q h (and_false_right (ltb q n) (none q h))))) put_other;
+        more = changed_more rules states (j + 1) early R is lost
+            (λ none. sym put_refined ∙ relation_same rows after (λ q h r b. ap (λ (row : List ℕ). member row r) (stay q h (none q h)))) put_other;
         copied = put_copied;
         low = put_low g.low;
       }
 
-module _ {n : ℕ} {rules : List Rule} {states words : List ℕ} {next : List (List ℕ)} {changed : List ℕ} {j : ℕ}
-    (g : Going n rules states words next changed j) where
-  pub going_done : not (same_set changed empty_set) ≡ false → (j ≡ rounds rules states) × (relation_in words ≡ relation rules states)
+module _ {n : ℕ} {set : List ℕ} {rules : List Rule} {states : List ℕ} {rows next : List StateSet} {changed : List ℕ} {j : ℕ}
+    (g : Going n set rules states rows next changed j) where
+  pub going_done : not (same_set changed empty_set) ≡ false → (j ≡ rounds rules states) × (relation_in rows ≡ relation rules states)
   unfolding relation
   going_done none =
       let late = ltb-false j (rounds rules states) (sym g.more ∙ none) in

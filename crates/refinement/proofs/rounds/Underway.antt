@@ -1,25 +1,23 @@
 -- The loop of `round`: after some of the rules each row is narrowed by those of them that are touched. Where no other rule takes a state out of
 -- a row, this is what all rules leave.
-use Prim.Native.Nat.{ℕ, ◌+◌, ◌≤◌, ◌<◌}
+use Prim.Native.Nat.{ℕ, ◌<◌}
 use native.Mathlib.Decide.{ℕ_discrete}
-use native.Mathlib.Omega.{arith}
 use mathlib.Core.Path.{◌≡◌, refl, sym, ap, ◌∙◌}
-use mathlib.Core.List.{List, [], Memᴰ}
+use mathlib.Core.List.{List, [], ◌∷◌, ◌++◌, Memᴰ}
 use mathlib.Core.Bool.{Bool, true, false, not, ◌&&◌, ◌||◌, and-true, and_assoc, true≢false, false≢true}
-use lib.ListN.{length, get_or, set}
-use lib.Seq.{get_or-set_same, get_or-set_other, set-get_or}
+use lib.ListN.{length, set}
 use lib.Dec.{eqb}
 use borrow.Author.Tests.{eq-eqb, ne_eqb, eqb-true}
-use Rattle.lists.specs.Lists.{from, all}
+use Rattle.lists.specs.Lists.{all}
 use Rattle.lists.proofs.Booleans.{and_true_out, and_false_left, and_false_right, and_same, or_true_left, same_bool}
 use Rattle.lists.proofs.Search.{all_agree}
 use Rattle.sets.specs.Set.{member, empty_set, with_state}
 use Rattle.sets.specs.Entries.{entry_at}
 use Rattle.sets.specs.Inner.{Has, Below}
+use Rattle.sets.specs.declared.set.StateSet.{StateSet}
 use Rattle.sets.proofs.StateSets.{member_empty, member_with, with_each}
-use Rattle.sets.proofs.EntrySets.{entry_length}
+use Rattle.sets.proofs.EntrySets.{entry_put, entry_other}
 use Rattle.automaton.specs.Automaton.{Rule}
-use Rattle.automaton.specs.Row.{rule_at, rules_in}
 use Rattle.refinement.specs.Simulation.{Relation, related, matched}
 use Rattle.refinement.specs.Inner.{relation_in, answers, touches, Quiet, RowsBelow, Copied, Rounded}
 use Rattle.refinement.proofs.RelationRows.{related_in}
@@ -29,116 +27,117 @@ use Rattle.refinement.proofs.rounds.Replacing.{all_next}
 abbrev pub narrowing : (Rule → Bool) → List Rule → Relation → List Rule → ℕ → ℕ → Bool
 narrowing touched others R rules q r = all (λ (u : Rule). not (touched u && eqb u.target q) || matched others R r u) rules
 
-pub rounded_none : (n : ℕ) (touched : Rule → Bool) (others : List Rule) (words rows : List ℕ) (next : List (List ℕ)) → n ≤ 256
-    → length words ≡ 1024 → Copied n words next
-    → Rounded n (narrowing touched others (relation_in words) (rules_in rows 0)) words next empty_set
-unfolding Copied all rules_in from
-rounded_none n touched others words rows next small long copied =
+pub rounded_none : {states : List ℕ} (touched : Rule → Bool) (others : List Rule) {rows next : List StateSet} → Copied states rows next
+    → Rounded states (narrowing touched others (relation_in rows) []) rows next empty_set
+unfolding Copied all
+rounded_none touched others copied =
     record {
-      four = λ q h. rw (copied q h) (entry_length words q (omega arith));
-      rows = λ q h r b. rw (copied q h, and-true);
-      same = λ q h e. copied q h;
+      next_rows = λ q h m r b. rw (copied q h m, and-true);
+      same = λ q h m e. copied q h m;
       fewer = λ q h e. absurd (false≢true (sym (member_empty q h) ∙ e));
     }
 
-module _ {n : ℕ} {stays : ℕ → ℕ → Bool} {words : List ℕ} {next : List (List ℕ)} {lost : List ℕ} (small : n ≤ 256)
-    (w : Rounded n stays words next lost) where
-  pub rounded_below : (m : ℕ) → RowsBelow m words → (q : ℕ) → q < n → Below m (get_or next q [])
+module _ {states : List ℕ} {stays : ℕ → ℕ → Bool} {rows next : List StateSet} {lost : List ℕ} (w : Rounded states stays rows next lost) where
+  pub rounded_below : (m : ℕ) → RowsBelow m rows → (q : ℕ) → q < 256 → member states q ≡ true → Below m (entry_at next q)
   unfolding RowsBelow Below
-  rounded_below m low q h r l b = w.rows q h r b ∙ and_false_left _ (low q (omega arith) r l b)
+  rounded_below m low q h is r l b = w.next_rows q h is r b ∙ and_false_left _ (low q h r l b)
 
   rounded_agrees : (other : ℕ → ℕ → Bool)
-      → ((q r : ℕ) → q < n → r < 256 → member (entry_at words q) r ≡ true → stays q r ≡ other q r) → Rounded n other words next lost
+      → ((q r : ℕ) → q < 256 → r < 256 → member (entry_at rows q) r ≡ true → stays q r ≡ other q r) → Rounded states other rows next lost
   rounded_agrees other same = record {
-    four = w.four;
-    rows = λ q h r b. w.rows q h r b ∙ and_same (member (entry_at words q) r) (same q r h b);
+    next_rows = λ q h m r b. w.next_rows q h m r b ∙ and_same (member (entry_at rows q) r) (same q r h b);
     same = w.same;
     fewer = w.fewer;
   }
 
-module _ (touched : Rule → Bool) (others : List Rule) (rows : List ℕ) (i : ℕ) {n : ℕ} {words : List ℕ} {next : List (List ℕ)} {lost : List ℕ}
-    (small : n ≤ 256) (w : Rounded n (narrowing touched others (relation_in words) (rules_in rows i)) words next lost) where
-  abbrev u : Rule
-  u = rule_at rows i
+module _ (touched : Rule → Bool) (others us : List Rule) (u : Rule) {states : List ℕ} {rows next : List StateSet} {lost : List ℕ}
+    (w : Rounded states (narrowing touched others (relation_in rows) us) rows next lost) where
+  abbrev R : Relation
+  R = relation_in rows
 
   abbrev before : ℕ → ℕ → Bool
-  before = narrowing touched others (relation_in words) (rules_in rows i)
+  before = narrowing touched others R us
 
   abbrev after : ℕ → ℕ → Bool
-  after = narrowing touched others (relation_in words) (rules_in rows (i + 1))
+  after = narrowing touched others R (us ++ (u ∷ []))
 
   -- A rule that is not touched, or has another target, asks nothing.
   nothing_asked : (q r : ℕ) → (touched u && eqb u.target q) ≡ false → before q r ≡ after q r
-  nothing_asked q r e = sym (all_next rows i _ ∙ rw (e, and-true))
+  nothing_asked q r e = sym (all_next us u _ ∙ rw (e, and-true))
 
-  pub rounded_pass : touched u ≡ false → Rounded n after words next lost
-  rounded_pass out = rounded_agrees small w after (λ q r h b m. nothing_asked q r (and_false_left (eqb u.target q) out))
+  pub rounded_pass : touched u ≡ false → Rounded states after rows next lost
+  rounded_pass out = rounded_agrees w after (λ q r h b m. nothing_asked q r (and_false_left (eqb u.target q) out))
 
   -- A rule that is touched narrows the row of its target.
-  module _ (q : ℕ) (row : List ℕ) (is : touched u ≡ true) (at : q ≡ u.target) (low : q < n) (long : n ≤ length next)
-      (four : length row ≡ 4) (narrowed : Has row (λ (r : ℕ). member (get_or next q []) r && matched others (relation_in words) r u)) where
-    row_at : get_or (set next q row) q [] ≡ row
-    row_at = get_or-set_same next q row [] (omega arith)
+  module _ (row : StateSet) (is : touched u ≡ true) (low : u.target < 256) (known : member states u.target ≡ true)
+      (narrowed : Has row.words (λ (r : ℕ). member (entry_at next u.target) r && matched others R r u)) where
+    row_after : (r : ℕ) → r < 256 → member row.words r ≡ (member (entry_at rows u.target) r && after u.target r)
+    row_after r b =
+        rw (all_next us u, is, eq-eqb u.target u.target refl)
+        (narrowed r b ∙ ap (λ (t : Bool). t && matched others R r u) (w.next_rows u.target low known r b)
+        ∙ and_assoc (member (entry_at rows u.target) r) (before u.target r) (matched others R r u))
 
-    four_after : (p : ℕ) → p < n → length (get_or (set next q row) p []) ≡ 4
-    four_after p h = elim (ℕ_discrete p q) [
-      | yes e ↦ rw (e, row_at) four
-      | no d ↦ rw (get_or-set_other next q p row [] d) (w.four p h)
-    ]
-
-    rows_after : (p : ℕ) → p < n → Has (get_or (set next q row) p []) (λ (r : ℕ). member (entry_at words p) r && after p r)
-    rows_after p h r b = elim (ℕ_discrete p q) [
-      | yes e ↦ rw (e, row_at, all_next rows i, is, at, eq-eqb u.target u.target refl)
-          (rw at at (narrowed r b ∙ ap (λ (t : Bool). t && matched others (relation_in words) r u) (w.rows q low r b)
-          ∙ and_assoc (member (entry_at words q) r) (before q r) (matched others (relation_in words) r u)))
-      | no d ↦ rw (get_or-set_other next q p row [] d)
-          (w.rows p h r b ∙ ap (λ (t : Bool). member (entry_at words p) r && t)
-          (nothing_asked p r (and_false_right (touched u) (ne_eqb u.target p (λ f. d (sym (at ∙ f)))))))
-    ]
+    other_after : (p : ℕ) → (p ≡ u.target → ⊥) → p < 256 → member states p ≡ true
+        → Has (entry_at next p) (λ (r : ℕ). member (entry_at rows p) r && after p r)
+    other_after p d h m r b =
+        w.next_rows p h m r b ∙ ap (λ (t : Bool). member (entry_at rows p) r && t)
+        (nothing_asked p r (and_false_right (touched u) (ne_eqb u.target p (λ e. d (sym e)))))
 
     -- The row is what it was, or has lost a state.
-    pub rounded_kept : row ≡ get_or next q [] → Rounded n after words (set next q row) lost
-    rounded_kept kept =
-        let unchanged : set next q row ≡ next = ap (set next q) kept ∙ set-get_or next q [] in
-        record { four = four_after; rows = rows_after; same = rw unchanged w.same; fewer = rw unchanged w.fewer }
+    pub rounded_kept : row.words ≡ entry_at next u.target → Rounded states after rows next lost
+    rounded_kept kept = record {
+      next_rows = λ p h m r b. elim (ℕ_discrete p u.target) [
+        | yes e ↦ rw e (ap (λ (set : List ℕ). member set r) (sym kept) ∙ row_after r b)
+        | no d ↦ other_after p d h m r b
+      ];
+      same = w.same;
+      fewer = w.fewer;
+    }
 
-    pub rounded_fewer : (Has (get_or next q []) (member row) → ⊥) → Rounded n after words (set next q row) (with_state lost q)
-    rounded_fewer other = record {
-      four = four_after;
-      rows = rows_after;
-      same = λ p h out. let off = sym (member_with lost q p (omega arith)) ∙ out in elim (ℕ_discrete p q) [
-        | yes e ↦ absurd (true≢false (sym (or_true_left (member lost p) (eq-eqb p q e)) ∙ off))
-        | no d ↦ rw (get_or-set_other next q p row [] d) (w.same p h (rw (ne_eqb p q d) at off))
+    pub rounded_fewer : u.target < length next → (Has row.words (member (entry_at next u.target)) → ⊥)
+        → Rounded states after rows (set next u.target row) (with_state lost u.target)
+    rounded_fewer room other = record {
+      next_rows = λ p h m r b. elim (ℕ_discrete p u.target) [
+        | yes e ↦ rw (e, row_at) (row_after r b)
+        | no d ↦ rw (entry_other next u.target row p d) (other_after p d h m r b)
+      ];
+      same = λ p h m out. let off = sym (member_with lost u.target p h) ∙ out in elim (ℕ_discrete p u.target) [
+        | yes e ↦ absurd (true≢false (sym (or_true_left (member lost p) (eq-eqb p u.target e)) ∙ off))
+        | no d ↦ rw (entry_other next u.target row p d) (w.same p h m (rw (ne_eqb p u.target d) at off))
       ];
       fewer = with_each
-          (λ (p : ℕ). (p < n) × (((r : ℕ) → r < 256 → member (entry_at words p) r ≡ true → member (get_or (set next q row) p []) r ≡ true) → ⊥))
-          lost q
+          (λ (p : ℕ). (member states p ≡ true)
+          × (((r : ℕ) → r < 256 → member (entry_at rows p) r ≡ true → member (entry_at (set next u.target row) p) r ≡ true) → ⊥))
+          lost u.target
           (λ p h on. let f = w.fewer p h on in (f.0, λ all. f.1 (λ r b m. was_there p r b (all r b m)))) (
-            low,
+            known,
             λ all. other (λ r b. same_bool
-                (λ m. rw row_at at (all r b (and_true_out _ (before q r) (sym (w.rows q low r b) ∙ m)).0))
-                (λ m. (and_true_out _ (matched others (relation_in words) r u) (sym (narrowed r b) ∙ m)).0)),
+                (λ m. (and_true_out _ (matched others R r u) (sym (narrowed r b) ∙ m)).0)
+                (λ m. rw row_at at (all r b (and_true_out _ (before u.target r) (sym (w.next_rows u.target low known r b) ∙ m)).0))),
           );
     }
       where
-        was_there : (p r : ℕ) → r < 256 → member (get_or (set next q row) p []) r ≡ true → member (get_or next p []) r ≡ true
-        was_there p r b m = elim (ℕ_discrete p q) [
-          | yes e ↦ rw e (and_true_out _ (matched others (relation_in words) r u) (sym (narrowed r b) ∙ rw (e, row_at) at m)).0
-          | no d ↦ rw (get_or-set_other next q p row [] d) at m
+        row_at : entry_at (set next u.target row) u.target ≡ row.words
+        row_at = entry_put next u.target row room
+
+        was_there : (p r : ℕ) → r < 256 → member (entry_at (set next u.target row) p) r ≡ true → member (entry_at next p) r ≡ true
+        was_there p r b m = elim (ℕ_discrete p u.target) [
+          | yes e ↦ rw e (and_true_out _ (matched others R r u) (sym (narrowed r b) ∙ rw (e, row_at) at m)).0
+          | no d ↦ rw (entry_other next u.target row p d) at m
         ]
 
 -- Where the others are quiet, each rule of a row's state has a match for the states that are left.
-pub rounded_all : (rules others : List Rule) (changed : List ℕ) {n : ℕ} {words : List ℕ} {next : List (List ℕ)} {lost : List ℕ} → n ≤ 256
-    → Quiet rules others (relation_in words) (touches changed)
-    → Rounded n (narrowing (touches changed) others (relation_in words) rules) words next lost
-    → Rounded n (answers rules others (relation_in words)) words next lost
+pub rounded_all : (rules others : List Rule) (changed : List ℕ) {states : List ℕ} {rows next : List StateSet} {lost : List ℕ}
+    → Quiet rules others (relation_in rows) (touches changed)
+    → Rounded states (narrowing (touches changed) others (relation_in rows) rules) rows next lost
+    → Rounded states (answers rules others (relation_in rows)) rows next lost
 unfolding Quiet answers
-rounded_all rules others changed {words = words} small quiet w =
-    rounded_agrees small w _ (λ q r h b is. all_agree _ _ rules (λ u m.
-    asked q r (related_in words q r (omega arith) b ∙ is) u m (eqb u.target q) refl (touches changed u) refl))
+rounded_all rules others changed {rows = rows} quiet w =
+    rounded_agrees w _ (λ q r h b is. all_agree _ _ rules (λ u m.
+    asked q r (related_in rows q r h b ∙ is) u m (eqb u.target q) refl (touches changed u) refl))
   where
     R : Relation
-    R = relation_in words
+    R = relation_in rows
 
     asked : (q r : ℕ) → related R q r ≡ true → (u : Rule) → Memᴰ u rules → (t : Bool) → eqb u.target q ≡ t
         → (s : Bool) → touches changed u ≡ s → (not (s && t) || matched others R r u) ≡ (not t || matched others R r u)

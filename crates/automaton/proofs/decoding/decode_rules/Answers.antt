@@ -1,4 +1,4 @@
-use Rattle.std.proofs.Common.{◌∙◌, sym}
+use Rattle.std.proofs.Common.{◌∙◌, arith, sym}
 use Rattle.std.proofs.lemmas.Result.{err_from_is_err_and}
 use Rattle.lists.proofs.Arrays.{part_to_end}
 use Rattle.records.specs.Answers.{reading_of}
@@ -18,19 +18,21 @@ unfolding reading_of passing map_read
 returns-in_err-end c =
     let p = err_from_is_err_and c.from_residual.result c.from_residual.ensures.1 in
     let stop = reached_refused _ _ _ _ _ _ _ _ c.loop-i.invariant c.loop-i-test.true (sym c.in_err-end.ensures) in
-    record { result_value = rw (p.1, p.2, stop); rows = λ us h. absurd (refused≢found (sym stop ∙ h)) }
+    record { result_value = rw (p.1, p.2, stop); rules = λ us h. absurd (refused≢found (sym stop ∙ h)) }
 
-pub put_row-requires : goal.put_row-requires
+pub read-requires : goal.read-requires
 unfolding reading_of
-put_row-requires c =
+read-requires c =
     let next = sym c.in_ok-end.ensures in
     let r = c.requires in
-    record {
-      rule_body =
-          rw c.body.ensures
-          (rule_body _ _ _ r.n_bound.0 r.ranks_len_bound.0 r.ranks_len_bound.1 (record_found 4 7 _ _ next).passes);
-      width_in_bounds = next_room _ _ _ _ _ _ _ _ c.loop-i.invariant c.loop-i-test.true r.n_bound.1 next r.rows_room;
-    }
+    rw c.body.ensures
+    (rule_body _ _ _ r.n_bound.0 r.ranks_len_bound.0 r.ranks_len_bound.1 (record_found 4 7 _ _ next).passes)
+
+pub bounds-rows-i : goal.bounds-rows-i
+unfolding reading_of
+bounds-rows-i c =
+    let next = sym c.in_ok-end.ensures in
+    next_room _ _ _ _ _ _ _ _ c.loop-i.invariant c.loop-i-test.true c.requires.n_bound.1 c.requires.rows_room next
 
 pub slice_bounds-rest-count : goal.slice_bounds-rest-count
 unfolding reading_of
@@ -45,8 +47,8 @@ unfolding reading_of
 loop-i-preserved c =
     let next = sym c.in_ok-end.ensures in
     rw part_to_end
-    (next_reached _ _ _ _ _ _ _ _ c.loop-i.invariant c.loop-i-test.true c.requires.n_bound.1 next _
-    (rw c.body.ensures at c.put_row.ensures))
+    (next_reached _ _ _ _ _ _ _ _ c.loop-i.invariant c.loop-i-test.true c.requires.n_bound.1 c.requires.rows_room next _
+    (rw c.body.ensures at c.read.ensures))
 
 pub returns : goal.returns
 returns c =
@@ -54,5 +56,5 @@ returns c =
     let last = c.loop-i-test.false in
     record {
       result_value = c.judge_end.ensures _ _ ∙ sym (end_reached _ _ _ _ _ _ _ _ reached last);
-      rows = all_reached _ _ _ _ _ _ _ _ reached last;
+      rules = all_reached _ _ _ _ _ _ _ _ reached last (omega arith);
     }

@@ -1,10 +1,7 @@
 -- A head and then the ranks.
-use Rattle.std.proofs.Common.{arith, sym}
-use lib.Seq.{length-take-le}
+use Rattle.std.proofs.Common.{refl, arith}
 use Rattle.records.proofs.Buffers.{over_record}
 use Rattle.automaton.proofs.writing.put_ranks.Goals as goal
 
 pub returns : goal.returns
-returns c =
-    over_record _ _ _ _ _ _ _ c.put_head.ensures c.put_bytes.ensures
-    (sym (length-take-le _ _ (omega arith))) (omega arith)
+returns c = over_record _ _ _ _ _ _ _ c.put_head.ensures c.put_bytes.ensures refl (omega arith)

@@ -1,31 +1,33 @@
 -- A head, the symbol, the target and then the children. The children are those of the rule, at most eight, and there is room for the record.
-use Rattle.std.proofs.Common.{arith}
-use Rattle.automaton.specs.Row.{rule_at}
-use Rattle.automaton.proofs.writing.Parts.{rule_size, over_rule}
+use Rattle.std.proofs.Common.{length, ap, arith}
+use Rattle.automaton.specs.Row.{rule_of}
+use Rattle.automaton.proofs.Encoding.{length_rule}
+use Rattle.automaton.proofs.Rows.{row_children_few}
+use Rattle.automaton.proofs.writing.Parts.{over_rule}
 use Rattle.automaton.proofs.writing.put_rule.Goals as goal
 
-pub overflow_add-children : goal.overflow_add-children
-overflow_add-children c = omega (arith, rule_size _ _ _ c.requires.row c.children_of-children.ensures)
-
 pub put_head-requires : goal.put_head-requires
-put_head-requires c = omega (arith, rule_size _ _ _ c.requires.row c.children_of-children.ensures)
+put_head-requires c =
+    omega (arith, ap length c.children-children.ensures, row_children_few c.args.rule.now, length_rule (rule_of c.args.rule.now))
 
 pub put2-requires : goal.put2-requires
-put2-requires c = omega (arith, rule_size _ _ _ c.requires.row c.children_of-children.ensures)
+put2-requires c =
+    omega (arith, ap length c.children-children.ensures, row_children_few c.args.rule.now, length_rule (rule_of c.args.rule.now))
 
 pub put2-requires-2 : goal.put2-requires-2
-put2-requires-2 c = omega (arith, rule_size _ _ _ c.requires.row c.children_of-children.ensures)
+put2-requires-2 c =
+    omega (arith, ap length c.children-children.ensures, row_children_few c.args.rule.now, length_rule (rule_of c.args.rule.now))
 
 pub put_fields-requires : goal.put_fields-requires
-put_fields-requires c = omega (arith, rule_size _ _ _ c.requires.row c.children_of-children.ensures)
-
-pub overflow_add-result-2 : goal.overflow_add-result-2
-overflow_add-result-2 c = omega (arith, rule_size _ _ _ c.requires.row c.children_of-children.ensures)
+put_fields-requires c =
+    omega (arith, ap length c.children-children.ensures, row_children_few c.args.rule.now, length_rule (rule_of c.args.rule.now))
 
 pub returns-clause-value : goal.returns-clause-value
-returns-clause-value c = omega (arith, rule_size _ _ _ c.requires.row c.children_of-children.ensures)
+returns-clause-value c =
+    omega (arith, ap length c.children-children.ensures, row_children_few c.args.rule.now, length_rule (rule_of c.args.rule.now))
 
 pub returns-clause-out_after : goal.returns-clause-out_after
 returns-clause-out_after c =
-    over_rule (rule_at c.args.rows.now c.args.i) _ _ c.requires.i_in_bounds _ _ _ c.symbol_of.ensures c.target_of.ensures
-    c.children_of-children.ensures _ _ _ _ c.put_head.ensures c.put2.ensures c.put2-2.ensures c.put_fields.ensures
+    over_rule (rule_of c.args.rule.now) _ _ c.requires _ _ _ _ (rw c.children-children.ensures at c.put_head.ensures)
+    (rw (c.from.ensures, c.symbol.ensures) at c.put2.ensures) (rw (c.from-2.ensures, c.target.ensures) at c.put2-2.ensures)
+    (rw c.children-children.ensures at c.put_fields.ensures)

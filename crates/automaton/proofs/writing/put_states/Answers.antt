@@ -1,17 +1,38 @@
-use Rattle.std.proofs.Common.{refl}
-use Rattle.lists.specs.Lists.{from, keep}
-use Rattle.lists.proofs.Overwriting.{writing_none, writing_room, writing_next}
-use Rattle.records.specs.Bytes.{fields}
+-- A turn writes the next state.
+use Rattle.std.proofs.Common.{◌≡◌, [], add-zero, arith}
+use mathlib.Core.Logic.{inl}
+use Rattle.std.specs.Iterator.Adapters.{enumerate_source}
+use Rattle.sets.specs.Inner.{states_left}
+use Rattle.records.specs.Bytes.{bytes2, fields}
+use Rattle.automaton.proofs.writing.Parts.{states_few, next_fits, next_left, none_left}
 use Rattle.automaton.proofs.writing.put_states.Goals as goal
 
-pub loop-q-init : goal.loop-q-init
-unfolding fields keep from
-loop-q-init c = writing_none _ _ _ _ refl
+pub loop-i-init : goal.loop-i-init
+loop-i-init c =
+    let few = states_few 256 c.args.set.words in
+    let counted = c.enumerate-i-items.ensures in
+    rw (c.into_iter-i-iterator.ensures.into_iter_gives, counted.source, counted.count, c.states.ensures)
+    ((tt, tt, inl (omega arith)), tt, record { room = omega (arith, c.requires); same = rw add-zero })
 
-pub put_state-next-requires : goal.put_state-next-requires
-put_state-next-requires c = writing_room c.loop-q.invariant c.loop-q-test.true c.requires.n_in_bounds
+pub put2-requires : goal.put2-requires
+unfolding fields bytes2
+put2-requires c =
+    let step = c.in-Some.ensures.steps in
+    let fits = next_fits c.loop-i.invariant.2 (bytes2 c.in-Some.q) (fields (states_left (enumerate_source c.next.new.self))) (rw step.0) in
+    omega (arith, step.1)
 
-pub loop-q-preserved : goal.loop-q-preserved
-loop-q-preserved c =
-    writing_next c.loop-q.invariant c.loop-q-test.true c.requires.n_in_bounds _ _ c.put_state-next.ensures.value
-    c.put_state-next.ensures.out_after
+pub loop-i-preserved : goal.loop-i-preserved
+unfolding fields bytes2
+loop-i-preserved c =
+    let step = c.in-Some.ensures.steps in (
+      c.in-Some.ensures.goes.keeps,
+      tt,
+      next_left c.loop-i.invariant.2 (bytes2 c.in-Some.q) _ (rw step.0) _ _ (rw (c.from.ensures, step.1) at c.put2.ensures)
+          (omega (arith, step.2)),
+    )
+
+pub returns : goal.returns
+unfolding fields
+returns c =
+    let none : states_left (enumerate_source c.loop-i.i-iterator) ≡ [] = c.in-None.ensures.steps.0.0 in
+    none_left c.loop-i.invariant.2 (rw none)

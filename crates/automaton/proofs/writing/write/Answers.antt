@@ -1,81 +1,87 @@
 -- The records go one after the other, and the length that the room is compared with is theirs.
-use Rattle.std.proofs.Common.{◌≡◌, ◌+◌, ◌*◌, ◌≤◌, ◌<◌, ◌∙◌, List, ℕ, arith, ap, length, sym}
-use Rattle.lists.proofs.Overwriting.{kept_few}
-use Rattle.sets.specs.Set.{member}
+use Rattle.std.proofs.Common.{◌≡◌, ◌+◌, ◌*◌, ◌≤◌, ◌<◌, ◌∙◌, arith, ap, length, sym}
+use Rattle.std.proofs.lemmas.List.{length-map}
+use Rattle.records.specs.Answers.{reading_of}
 use Rattle.records.specs.Read.{found}
 use Rattle.records.proofs.Buffers.{room_enough, room_short}
-use Rattle.records.specs.Answers.{reading_of}
+use Rattle.automaton.specs.Row.{rule_of}
 use Rattle.automaton.specs.Table.{encode}
-use Rattle.automaton.specs.Decoded.{automaton_in}
-use Rattle.automaton.proofs.Held.{few_states, few_symbols}
-use Rattle.automaton.proofs.writing.Parts.{length_written, over_records}
+use Rattle.automaton.proofs.writing.Parts.{states_few, counted, finals_met, length_written, over_records}
 use Rattle.automaton.proofs.writing.write.Goals as goal
 
-pub count_states-count-requires : goal.count_states-count-requires
-count_states-count-requires c = few_states _ _ _ _ c.requires.well_formed
+pub below-requires : goal.below-requires
+below-requires c =
+    let A = c.args.table.now in
+    let size = counted A c.size-size.result c.size-size.ensures.value c.size-size.ensures.well_formed in
+    size.few_states
 
-pub overflow_mul-length : goal.overflow_mul-length
-overflow_mul-length c =
-    omega (arith, few_states _ _ _ _ c.requires.well_formed, kept_few (member c.args.finals.words) c.args.size.states)
+pub overflow_add-rules_at : goal.overflow_add-rules_at
+overflow_add-rules_at c =
+    let A = c.args.table.now in
+    let size = counted A c.size-size.result c.size-size.ensures.value c.size-size.ensures.well_formed in
+    omega (arith, size.few_symbols)
 
-pub overflow_add-length-2 : goal.overflow_add-length-2
-overflow_add-length-2 c =
-    omega (
-      arith,
-      few_states _ _ _ _ c.requires.well_formed,
-      few_symbols _ _ _ _ c.requires.well_formed c.requires.symbols_in_bounds,
-      kept_few (member c.args.finals.words) c.args.size.states,
-    )
+pub overflow_mul-rules_at : goal.overflow_mul-rules_at
+overflow_mul-rules_at c =
+    let few = states_few 256 c.meet-finals.result.words in
+    omega arith
 
-pub overflow_add-length-3 : goal.overflow_add-length-3
-overflow_add-length-3 c =
-    omega (
-      arith,
-      few_states _ _ _ _ c.requires.well_formed,
-      few_symbols _ _ _ _ c.requires.well_formed c.requires.symbols_in_bounds,
-      kept_few (member c.args.finals.words) c.args.size.states,
-      c.requires.rows.count,
-    )
+pub overflow_add-rules_at-2 : goal.overflow_add-rules_at-2
+overflow_add-rules_at-2 c =
+    let A = c.args.table.now in
+    let size = counted A c.size-size.result c.size-size.ensures.value c.size-size.ensures.well_formed in
+    let few = states_few 256 c.meet-finals.result.words in
+    omega (arith, size.few_symbols)
+
+pub overflow_add-length : goal.overflow_add-length
+overflow_add-length c =
+    let A = c.args.table.now in
+    let size = counted A c.size-size.result c.size-size.ensures.value c.size-size.ensures.well_formed in
+    let few = states_few 256 c.meet-finals.result.words in
+    let rules : length c.rules-rules.result.now ≡ c.size-size.result.rules =
+    omega (arith, length-map c.rules-rules.result.now rule_of, ap length c.rules-rules.ensures, size.rules) in
+    omega (arith, size.few_symbols, size.few_rules, c.rules_length.ensures.upper_bound)
 
 pub returns-then-out-length : goal.returns-then-out-length
 unfolding reading_of
 returns-then-out-length c =
-    let size = c.args.size in
-    let finals = c.args.finals.words in
-    let ranks = c.args.ranks.now in
-    let rows = c.args.rows.now in
-    let counted = length_written size finals ranks rows c.requires.symbols_in_bounds in
-    let short : length c.args.out.now < length (encode (automaton_in size finals ranks rows)) = omega arith in
+    let A = c.args.table.now in
+    let size = counted A c.size-size.result c.size-size.ensures.value c.size-size.ensures.well_formed in
+    let finals =
+    finals_met A c.finals.result.words _ _ _ size.states size.few_states c.finals.ensures c.below.ensures c.meet-finals.ensures in
+    let long : length (encode A) ≡ 24 + c.size-size.result.symbols + 2 * c.len.result + c.rules_length.result =
+    length_written A c.rules-rules.result.now _ _ _ _ size.symbols finals c.len.ensures c.rules-rules.ensures c.rules_length.ensures.value in
+    let short : length c.args.out.now < length (encode A) = omega arith in
     record { result_value = sym (room_short _ _ short).0; out_after = sym (room_short _ _ short).1 }
 
 pub put_size-requires-clause-states_bound : goal.put_size-requires-clause-states_bound
-put_size-requires-clause-states_bound c = (
-  few_states _ _ _ _ c.requires.well_formed,
-  (few_symbols _ _ _ _ c.requires.well_formed c.requires.symbols_in_bounds, c.requires.rows.count),
-)
+put_size-requires-clause-states_bound c =
+    let A = c.args.table.now in
+    let size = counted A c.size-size.result c.size-size.ensures.value c.size-size.ensures.well_formed in
+    (size.few_states, (size.few_symbols, size.few_rules))
 
-pub put_ranks-requires-clause-m_bound : goal.put_ranks-requires-clause-m_bound
-put_ranks-requires-clause-m_bound c =
-    (few_symbols _ _ _ _ c.requires.well_formed c.requires.symbols_in_bounds, c.requires.symbols_in_bounds)
-
-pub put_finals-requires-clause-n_bound : goal.put_finals-requires-clause-n_bound
-put_finals-requires-clause-n_bound c = few_states _ _ _ _ c.requires.well_formed
+pub put_ranks-requires-clause-in_bounds : goal.put_ranks-requires-clause-in_bounds
+put_ranks-requires-clause-in_bounds c =
+    let A = c.args.table.now in
+    let size = counted A c.size-size.result c.size-size.ensures.value c.size-size.ensures.well_formed in
+    omega (arith, ap length c.ranks.ensures, size.symbols)
 
 pub returns : goal.returns
 unfolding reading_of
 returns c =
-    let size = c.args.size in
-    let finals = c.args.finals.words in
-    let ranks = c.args.ranks.now in
-    let rows = c.args.rows.now in
-    let bytes : List ℕ = encode (automaton_in size finals ranks rows) in
-    let counted : length bytes ≡ 24 + size.symbols + 2 * c.count_states-count.result + c.rules_length.result =
-    omega (arith, length_written size finals ranks rows c.requires.symbols_in_bounds) in
-    let fits : length bytes ≤ length c.args.out.now = omega arith in
+    let A = c.args.table.now in
+    let size = counted A c.size-size.result c.size-size.ensures.value c.size-size.ensures.well_formed in
+    let finals =
+    finals_met A c.finals.result.words _ _ _ size.states size.few_states c.finals.ensures c.below.ensures c.meet-finals.ensures in
+    let long : length (encode A) ≡ 24 + c.size-size.result.symbols + 2 * c.len.result + c.rules_length.result =
+    length_written A c.rules-rules.result.now _ _ _ _ size.symbols finals c.len.ensures c.rules-rules.ensures c.rules_length.ensures.value in
+    let fits : length (encode A) ≤ length c.args.out.now = omega arith in
     record {
-      result_value = sym ((room_enough _ _ fits).0 ∙ ap found counted);
+      result_value = sym ((room_enough _ _ fits).0 ∙ ap found long);
       out_after =
-          over_records size finals ranks rows c.requires.symbols_in_bounds _ _ c.count_states-count.ensures fits _ _ _ _
-          c.put_size.ensures c.put_ranks.ensures c.put_finals.ensures c.put_rules.ensures
+          over_records A _ fits _ _ _ _ (rw (size.states, size.symbols, size.rules) at c.put_size.ensures)
+          (rw c.ranks.ensures at c.put_ranks.ensures)
+          (rw (size.symbols, ← finals) at c.put_finals.ensures)
+          (rw (size.symbols, c.len.ensures, ← finals, c.rules-rules.ensures) at c.put_rules.ensures)
           ∙ sym (room_enough _ _ fits).1;
     }

@@ -1,12 +1,7 @@
--- The names of the states below q are their representatives.
-use Rattle.std.proofs.Common.{◌≡◌, ℕ, ◌-◌, ◌≤◌, ◌<◌, length, get_or}
-use Rattle.reduction.proofs.blocks.Naming.{Represents}
+-- The states that were passed are named after their representatives, and no name is above its state.
+use Rattle.refinement.specs.Inner.{relation_in}
+use Rattle.reduction.proofs.blocks.Naming.{Lowered, Named, Represents}
 use Rattle.reduction.proofs.blocks.name_blocks.Given as goal
 
 abbrev pub invariant-loop-q : goal.invariant-loop-q
-invariant-loop-q l =
-    (l.q ≤ l.n) × (length l.names ≡ length l.initial.names)
-    × ((p : ℕ) → p < l.q → Represents l.words p (get_or l.names p 0))
-
-abbrev pub decreases-loop-q : goal.decreases-loop-q
-decreases-loop-q l = l.n - l.q
+invariant-loop-q l = record { low : Lowered l.names; named : Named (Represents (relation_in l.relation.rows)) l.yielded l.names }

@@ -1,46 +1,35 @@
-use Rattle.std.proofs.Common.{◌≡◌, ◌∙◌, ℕ, length, refl, sym, ap, arith, rules, length-set}
-use Rattle.lists.specs.Lists.{from, keep}
-use Rattle.lists.proofs.Overwriting.{kept, kept_few, length_step, single_kept, single_dropped}
-use Rattle.lists.proofs.Arrays.{filled_more}
-use Rattle.sets.specs.Set.{member}
-use Rattle.sets.specs.Inner.{states_in}
-use Rattle.reduction.specs.Inner.{name_in}
-use Rattle.reduction.proofs.blocks.Naming.{position_kept}
+-- A turn numbers the next state.
+use Rattle.std.proofs.Common.{◌≡◌, [], refl, arith}
+use mathlib.Core.Logic.{inl}
+use Rattle.std.specs.Iterator.Adapters.{enumerate_source}
+use Rattle.sets.specs.Inner.{states_left}
+use Rattle.reduction.proofs.blocks.Naming.{states_few, numbered_none, number_low, numbered_more, numbered_all}
 use Rattle.reduction.proofs.blocks.number_states.Goals as goal
-use Rattle.reduction.proofs.blocks.number_states.Goals.{then-has, else-has}
 
-pub loop-q-init : goal.loop-q-init
-unfolding keep from
-loop-q-init c = (search rules, search rules, refl, λ p h. absurd (omega arith))
+pub loop-i-init : goal.loop-i-init
+loop-i-init c =
+    let few = states_few c.args.states.words in
+    let counted = c.enumerate-i-items.ensures in
+    rw (c.into_iter-i-iterator.ensures.into_iter_gives, counted.source, counted.count, c.states.ensures)
+    ((tt, tt, inl (omega arith)), tt, numbered_none _ _ refl)
 
 pub overflow_cast-names : goal.overflow_cast-names
-overflow_cast-names c = omega (arith, kept_few (member c.args.set.words) c.loop-q.q)
+overflow_cast-names c =
+    let step = c.in-Some.ensures.steps in
+    omega (arith, step.1, number_low c.loop-i.invariant.2 c.in-Some.q _ step.0)
 
-pub overflow_add-count : goal.overflow_add-count
-overflow_add-count c = omega (arith, kept_few (member c.args.set.words) c.loop-q.q)
-
-pub loop-q-preserved : goal.loop-q-preserved
-loop-q-preserved c =
-    let l = c.loop-q in
-    let test = member c.args.set.words in (
-      search rules,
-      simp length-set (search rules),
-      elim c.if-has.branch [
-        | then-has w ↦ omega (arith, w.count-is, length_step (kept test) l.q, ap length (single_kept test l.q (sym w.if-has.ensures)))
-        | else-has w ↦ omega (arith, w.count-is, length_step (kept test) l.q, ap length (single_dropped test l.q (sym w.if-has.ensures)))
-      ],
-      filled_more (λ (p v : ℕ). v ≡ length (keep test (from 0 p))) 0 l.names l.q _ (omega arith) l.invariant.3 l.invariant.2,
+pub loop-i-preserved : goal.loop-i-preserved
+loop-i-preserved c =
+    let step = c.in-Some.ensures.steps in (
+      c.in-Some.ensures.goes.keeps,
+      tt,
+      rw step.2 (numbered_more c.loop-i.invariant.2 c.in-Some.q _ step.0 _ _ c.from.ensures step.1),
     )
 
-pub returns-clause-value : goal.returns-clause-value
-unfolding states_in
-returns-clause-value c = let all : c.loop-q.q ≡ c.args.n = omega arith in rw all at c.loop-q.invariant.2
+pub returns-clause-low : goal.returns-clause-low
+returns-clause-low c = c.loop-i.invariant.2.low.low
 
-pub returns-clause-by_index : goal.returns-clause-by_index
-unfolding name_in
-returns-clause-by_index c q h = omega (arith, c.loop-q.invariant.3 q (omega arith), kept_few (member c.args.set.words) q)
-
-pub returns-clause-by_index_2 : goal.returns-clause-by_index_2
-unfolding name_in states_in
-returns-clause-by_index_2 c q h is =
-    c.loop-q.invariant.3 q (omega arith) ∙ sym (position_kept (member c.args.set.words) q 0 c.args.n q (omega arith) h is)
+pub returns-clause-numbered : goal.returns-clause-numbered
+returns-clause-numbered c =
+    let none : states_left (enumerate_source c.loop-i.i-iterator) ≡ [] = c.in-None.ensures.steps.0.0 in
+    numbered_all c.loop-i.invariant.2 none

@@ -1,13 +1,10 @@
--- The count at q is the number of members below q, and so is the name of q.
-use Rattle.std.proofs.Common.{◌≡◌, ℕ, ◌-◌, ◌≤◌, ◌<◌, length, get_or}
-use Rattle.lists.specs.Lists.{from, keep}
-use Rattle.sets.specs.Set.{member}
+-- The states that were passed are numbered.
+use Rattle.std.specs.Iterator.Adapters.{enumerate_source, enumerate_count}
+use Rattle.sets.specs.Inner.{states_left}
+use Rattle.reduction.proofs.blocks.Naming.{Numbered}
 use Rattle.reduction.proofs.blocks.number_states.Given as goal
 
-abbrev pub invariant-loop-q : goal.invariant-loop-q
-invariant-loop-q l =
-    (l.q ≤ l.n) × (length l.names ≡ length l.initial.names) × (l.count ≡ length (keep (member l.set.words) (from 0 l.q)))
-    × ((p : ℕ) → p < l.q → get_or l.names p 0 ≡ length (keep (member l.set.words) (from 0 p)))
-
-abbrev pub decreases-loop-q : goal.decreases-loop-q
-decreases-loop-q l = l.n - l.q
+abbrev pub invariant-loop-i : goal.invariant-loop-i
+invariant-loop-i l =
+    goal.iterator-loop-i.can_next l.i-iterator × goal.iterator-loop-i.is_finite l.i-iterator
+    × Numbered l.fn.states.words (states_left (enumerate_source l.i-iterator)) (enumerate_count l.i-iterator) l.names

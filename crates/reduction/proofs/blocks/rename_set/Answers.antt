@@ -1,27 +1,20 @@
-use Rattle.std.proofs.Common.{◌≡◌, arith, rules, sym}
-use Rattle.lists.specs.Lists.{from, keep, any}
-use Rattle.sets.specs.Inner.{states_in}
 use Rattle.sets.proofs.StateSets.{member_empty}
+use Rattle.sets.proofs.StateLoops.{states_passed, states_done}
+use Rattle.lists.specs.Lists.{any}
 use Rattle.reduction.specs.Inner.{name_in}
-use Rattle.reduction.proofs.blocks.Naming.{name_in_lem, name_out}
+use Rattle.reduction.proofs.blocks.Naming.{renames_more}
 use Rattle.reduction.proofs.blocks.rename_set.Goals as goal
-use Rattle.reduction.proofs.blocks.rename_set.Goals.{then-has, else-has}
 
 pub loop-q-init : goal.loop-q-init
-unfolding any keep from
-loop-q-init c = (search rules, λ r h. rw c.empty-renamed.ensures (member_empty r h))
+unfolding any
+loop-q-init c r h = rw c.empty-renamed.ensures (member_empty r h)
 
 pub loop-q-preserved : goal.loop-q-preserved
 unfolding name_in
 loop-q-preserved c =
-    let l = c.loop-q in (
-      search rules,
-      elim c.if-has.branch [
-        | then-has w ↦ rw (w.renamed-is, w.with-renamed.ensures) (name_in_lem (name_in c.args.names.now) _ _ l.q l.invariant.1 (sym w.if-has.ensures))
-        | else-has w ↦ rw w.renamed-is (name_out (name_in c.args.names.now) _ _ l.q l.invariant.1 (sym w.if-has.ensures))
-      ],
-    )
+    rw (c.with-renamed.ensures, c.from.ensures) (renames_more (name_in c.args.names.now) _ _ c.in-Some.q c.loop-q.invariant)
 
 pub returns : goal.returns
-unfolding states_in
-returns c = let all : c.loop-q.q ≡ c.args.n = omega arith in rw all at c.loop-q.invariant.1
+returns c =
+    let p = states_passed c.args.states.words _ _ c.states-q-items.ensures c.into_iter-q-iterator.ensures.into_iter_gives c.loop-q.yielded_by in
+    rw (← states_done p c.in-None.ensures.steps.0) c.loop-q.invariant

@@ -1,10 +1,8 @@
--- A turn for each rule.
-use Rattle.std.proofs.Common.{◌-◌, ◌≤◌}
+-- The rules before the index have had their turn.
+use Rattle.std.proofs.Common.{take}
+use Rattle.automaton.specs.Row.{rules_of}
 use Rattle.reduction.specs.Inner.{Pass}
 use Rattle.reduction.proofs.growth.grow_once.Given as goal
 
-abbrev pub invariant-loop-i : goal.invariant-loop-i
-invariant-loop-i l = (l.i ≤ l.k) × Pass l.way l.rows l.i l.initial.grown.words l.grown.words
-
-abbrev pub decreases-loop-i : goal.decreases-loop-i
-decreases-loop-i l = l.k - l.i
+abbrev pub invariant-loop-rule : goal.invariant-loop-rule
+invariant-loop-rule g l = Pass g.W.Way.adds (rules_of (take l.rule-index l.rules)) l.initial.grown.words l.grown.words

@@ -1,12 +1,10 @@
--- The rules below the index are marked, each by the numbers of its target.
-use Rattle.std.proofs.Common.{◌-◌}
+-- The rules below the index are marked.
+use Rattle.std.proofs.Common.{ℕ, ◌≡◌, ◌<◌}
+use Rattle.automaton.specs.Row.{rules_of}
 use Rattle.refinement.specs.Inner.{relation_in}
-use Rattle.reduction.specs.Inner.{stays}
-use Rattle.reduction.proofs.marking.Marks.{Marking}
+use Rattle.reduction.specs.Inner.{marked, stays}
 use Rattle.reduction.proofs.marking.mark_staying.Given as goal
 
 abbrev pub invariant-loop-i : goal.invariant-loop-i
-invariant-loop-i l = Marking (stays l.why (relation_in l.words) l.rows l.k) l.k l.initial.marks l.marks l.i
-
-abbrev pub decreases-loop-i : goal.decreases-loop-i
-decreases-loop-i l = l.k - l.i
+invariant-loop-i g l =
+    (j : ℕ) → j < l.i → marked l.marks j ≡ stays g.W.Why.goes_for (relation_in l.relation.rows) (rules_of l.rules) j

@@ -1,10 +1,25 @@
 -- The undominated rules are marked, and the marked ones stay.
-use Rattle.std.proofs.Common.{◌∙◌}
+use Rattle.std.proofs.Common.{◌∙◌, refl, rules}
 use Rattle.refinement.specs.Inner.{relation_in}
-use Rattle.reduction.proofs.steps.EachStep.{pruned_rules}
+use Rattle.stages.specs.Steps.{pruned}
+use Rattle.stages.proofs.Pruning.{pruned_sound}
+use Rattle.reduction.specs.Inner.{stage_of}
+use Rattle.reduction.proofs.steps.EachStep.{undominated_rows, targets_few}
 use Rattle.reduction.proofs.steps.prune.Goals as goal
 
-pub returns-clause-result_after : goal.returns-clause-result_after
-returns-clause-result_after c S rules =
-    c.compact.ensures.result_after
-    ∙ pruned_rules (relation_in c.args.words.now) c.args.rows.now c.args.k _ c.mark_staying.ensures S rules
+pub mark_staying-requires-clause-by_index : goal.mark_staying-requires-clause-by_index
+mark_staying-requires-clause-by_index c =
+    targets_few c.work.inside.rules.now (stage_of c.work.inside) c.work.invariant.sound (λ u m. m)
+
+pub returns : goal.returns
+unfolding pruned
+returns c =
+    let R = relation_in c.args.relation.now.rows in
+    let rules_are = c.compact-count.ensures.result_after ∙ undominated_rows R c.work.inside.rules.now _ c.mark_staying.ensures in
+    rw (← c.work.view_is, rules_are) refl
+
+pub invariant_of-result : goal.invariant_of-result
+invariant_of-result c = record {
+  sound = rw (returns c) (pruned_sound _ c.args.work (rw c.work.view_is at c.work.invariant.sound));
+  few = search rules;
+}

@@ -1,18 +1,17 @@
--- The targets are states that are left, which are below their number.
-use Rattle.sets.proofs.StateSets.{states_low}
-use Rattle.automaton.proofs.Rows.{rule_in_lem}
-use Rattle.indexing.specs.Index.{key_of}
+-- The targets are states that are left.
+use Rattle.stages.specs.Steps.{below, rounds_in}
+use Rattle.reduction.specs.Inner.{stage_of}
+use Rattle.reduction.proofs.steps.EachStep.{targets_few}
 use Rattle.reduction.proofs.steps.simulate_left.Goals as goal
 
 pub index_rules-requires-clause-by_index : goal.index_rules-requires-clause-by_index
-unfolding key_of
-index_rules-requires-clause-by_index c i h =
-    states_low _ c.args.states.words _ (c.requires.simulable.targets _ (rule_in_lem c.args.rows.now c.args.size.rules i h))
+index_rules-requires-clause-by_index c =
+    targets_few c.work.inside.rules.now (stage_of c.work.inside) c.work.invariant.sound (λ u m. m)
 
-pub simulate-requires-clause-answering : goal.simulate-requires-clause-answering
-unfolding key_of
-simulate-requires-clause-answering c = record {
-  states = c.requires.states_bound.0;
-  rules = c.requires.states_bound.1;
-  index_is = c.index_rules.ensures;
-}
+pub returns-clause-value : goal.returns-clause-value
+unfolding rounds_in
+returns-clause-value c = rw (← c.work.view_is) c.simulate.ensures.value
+
+pub returns-clause-relation_after : goal.returns-clause-relation_after
+unfolding below
+returns-clause-relation_after c = rw (← c.work.view_is) c.simulate.ensures.relation_after

@@ -1,51 +1,57 @@
-use Rattle.std.proofs.Common.{◌≡◌, ℕ, ◌<◌, arith, rules, refl, sym, ap, not, List, [], length, get_or, length-set, Fits, w64}
-use borrow.Author.Tests.{le-ltb}
-use Rattle.lists.proofs.Booleans.{and_true_in, and_false_left, and_false_right}
-use Rattle.lists.proofs.Arrays.{filled_more}
-use Rattle.sets.specs.Set.{member}
+use Rattle.std.proofs.Common.{◌≡◌, ◌<◌, ◌&&◌, ℕ, Bool, List, not, length, get_or, arith, sym, ap, ◌∙◌}
+use lib.Dec.{eqb}
+use lib.Pointwise.{pointwise}
+use Rattle.lists.specs.Lists.{among, any}
+use Rattle.sets.specs.Set.{same_set}
 use Rattle.sets.specs.Entries.{entry_at}
-use Rattle.sets.proofs.StateSets.{member_empty, below_in, below_out, Bounded}
+use Rattle.sets.specs.declared.set.StateSet.{StateSet}
+use Rattle.sets.proofs.EntrySets.{entry_read}
+use Rattle.sets.proofs.StateSets.{member_empty, same_pairs}
+use Rattle.sets.proofs.StateLoops.{states_passed, among_done, passed_in, passed_out}
 use Rattle.refinement.specs.Inner.{Copied}
-use Rattle.refinement.proofs.rounds.copy_rows.Invariants.{not_full}
+use Rattle.refinement.proofs.rounds.Replacing.{replaced_none, replaced_more, replaced_in}
 use Rattle.refinement.proofs.rounds.copy_rows.Goals as goal
-use Rattle.refinement.proofs.rounds.copy_rows.Goals.{then-has+then-not-same, else-has, else-has-via-then-has+else-not-same, else-has-via-else-has}
+
+-- Whether the row of a state is not all of a set.
+test_at : (rows : List StateSet) (n q : ℕ) (row states : StateSet) {t : Bool} → n ≡ q → n < length rows
+    → t ≡ not (pointwise eqb (get_or rows n row).words states.words) → not (same_set (entry_at rows q) states.words) ≡ t
+test_at rows n q row states e h t =
+    rw (← e) (ap (λ (set : List ℕ). not (same_set set states.words)) (sym (entry_read rows n row h))
+    ∙ ap not (sym (same_pairs (get_or rows n row) states)) ∙ sym t)
 
 pub loop-q-init : goal.loop-q-init
-loop-q-init c = (
-  omega arith,
-  refl,
-  (λ q h. absurd (omega arith)),
-  λ r h. rw (c.empty-changed.ensures, le-ltb r 0 (omega arith)) (member_empty r h),
-)
+unfolding among any
+loop-q-init c = record { copied = replaced_none _ _; noted = λ r h. rw c.empty-changed.ensures (member_empty r h) }
+
+pub loop-q-preserved-then-ne : goal.loop-q-preserved-then-ne
+loop-q-preserved-then-ne c = record {
+  copied = replaced_more _ _ _ c.loop-q.invariant.copied c.from-in-loop-q.ensures (omega arith)
+      (entry_read c.args.rows.now _ _ (omega arith) ∙ ap (entry_at c.args.rows.now) c.from.ensures);
+  noted = rw c.insert.ensures
+      (passed_in c.loop-q.changed.words c.loop-q.yielded (λ (q : ℕ). not (same_set (entry_at c.args.rows.now q) c.args.states.words))
+      c.in-Some.q c.loop-q.invariant.noted
+      (test_at c.args.rows.now c.from.result c.in-Some.q c.index-rows-from.result c.args.states c.from.ensures (omega arith)
+      c.if-ne.ensures));
+}
 
 pub loop-q-preserved : goal.loop-q-preserved
-loop-q-preserved c =
-    let a = c.args in
-    let l = c.loop-q in
-    let test = not_full a.states.words a.words.now in
-    let room : l.q < length l.next = omega arith in
-    let bounded : Bounded (entry_at a.words.now l.q) =
-    rw (← c.entry-row.ensures) (λ i. let f : Fits w64 (get_or c.entry-row.result.words i 0) = search (rules, c.entry-row.type_inv) in f.fits) in (
-      omega arith,
-      simp length-set l.invariant.1,
-      filled_more (λ (q : ℕ) (row : List ℕ). (row ≡ entry_at a.words.now q) × Bounded (entry_at a.words.now q)) [] l.next l.q _
-          room l.invariant.2 (c.entry-row.ensures, bounded),
-      elim c.if-has.branch [
-        | then-has+then-not-same w ↦
-            rw (w.changed-is, w.with-changed.ensures)
-            (below_in l.changed.words test l.q l.invariant.3 (omega arith)
-            (and_true_in (sym w.if-has.ensures) (ap not (rw c.entry-row.ensures at (sym w.if-not-same.ensures)))))
-        | else-has w ↦
-            rw w.changed-is
-            (below_out l.changed.words test l.q l.invariant.3
-            (elim w.else-has.branch [
-              | else-has-via-then-has+else-not-same v ↦
-                  and_false_right (member a.states.words l.q) (ap not (rw c.entry-row.ensures at (sym v.if-not-same.ensures)))
-              | else-has-via-else-has v ↦ and_false_left _ (sym v.if-has.ensures)
-            ]))
-      ],
-    )
+loop-q-preserved c = record {
+  copied = replaced_more _ _ _ c.loop-q.invariant.copied c.from-in-loop-q.ensures (omega arith)
+      (entry_read c.args.rows.now _ _ (omega arith) ∙ ap (entry_at c.args.rows.now) c.from.ensures);
+  noted = passed_out c.loop-q.changed.words c.loop-q.yielded (λ (q : ℕ). not (same_set (entry_at c.args.rows.now q) c.args.states.words))
+      c.in-Some.q c.loop-q.invariant.noted
+      (test_at c.args.rows.now c.from.result c.in-Some.q c.index-rows-from.result c.args.states c.from.ensures (omega arith)
+      c.if-ne.ensures);
+}
 
 pub returns-clause-copied : goal.returns-clause-copied
 unfolding Copied
-returns-clause-copied c q h = (c.loop-q.invariant.2 q (omega arith)).0
+returns-clause-copied c q h =
+    let p = states_passed c.args.states.words _ _ c.states-q-items.ensures c.into_iter-q-iterator.ensures.into_iter_gives c.loop-q.yielded_by in
+    replaced_in _ c.loop-q.invariant.copied (among_done p c.in-None.ensures.steps.0) q h
+
+pub returns-clause-has : goal.returns-clause-has
+returns-clause-has c r h =
+    let p = states_passed c.args.states.words _ _ c.states-q-items.ensures c.into_iter-q-iterator.ensures.into_iter_gives c.loop-q.yielded_by in
+    c.loop-q.invariant.noted r h
+    ∙ ap (λ (t : Bool). t && not (same_set (entry_at c.args.rows.now r) c.args.states.words)) (among_done p c.in-None.ensures.steps.0 r h)

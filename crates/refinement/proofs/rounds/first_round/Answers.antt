@@ -1,16 +1,19 @@
-use Rattle.std.proofs.Common.{arith, refl, ◌+◌, ◌*◌, ◌≤◌, length}
+use Rattle.std.proofs.Common.{◌<◌, length, arith, ap, ap₂, ◌∙◌}
+use Rattle.sets.specs.Set.{meet_of}
+use Rattle.sets.specs.Entries.{entry_at}
+use Rattle.sets.proofs.EntrySets.{entry_read}
+use Rattle.refinement.proofs.RuleRows.{rules_more}
 use Rattle.refinement.proofs.rounds.Replacing.{met_none, meet_next}
 use Rattle.refinement.proofs.rounds.first_round.Goals as goal
 
-pub loop-i-init : goal.loop-i-init
-loop-i-init c = (omega arith, refl, λ q h r b. met_none c.args.holders.now _ c.args.rows.now q r)
+pub loop-rule-init : goal.loop-rule-init
+loop-rule-init c q h r b = met_none c.args.holders.now c.args.rows.now q r
 
-pub loop-i-preserved : goal.loop-i-preserved
-loop-i-preserved c =
-    let room : 4 * c.target_of-q.result + 4 ≤ length c.loop-i.words = omega arith in (
-      omega arith,
-      omega arith,
-      rw (c.put_entry.ensures, c.meet.ensures, c.entry.ensures, c.row_of.ensures, c.target_of-q.ensures, c.symbol_of-f.ensures)
-          (meet_next c.args.rows.now c.loop-i.i c.args.holders.now c.args.words.now c.loop-i.words (rw c.target_of-q.ensures at room)
-          c.loop-i.invariant.2),
-    )
+pub loop-rule-preserved : goal.loop-rule-preserved
+loop-rule-preserved c =
+    let room : c.from-q.result < length c.loop-rule.rows = omega arith in
+    rw (rules_more c.args.rules.now c.loop-rule.rule-index c.rule-item.result c.loop-rule-test.true c.rule-item.is)
+    (meet_next _ _ c.args.holders.now c.args.rows.now c.loop-rule.rows c.from-q.result c.meet.result (c.from-q.ensures ∙ c.target.ensures) room
+    (c.meet.ensures ∙ ap₂ meet_of (entry_read c.loop-rule.rows _ _ room)
+    (entry_read c.args.holders.now _ _ (omega arith) ∙ ap (entry_at c.args.holders.now) (c.from.ensures ∙ c.symbol.ensures)))
+    c.loop-rule.invariant)

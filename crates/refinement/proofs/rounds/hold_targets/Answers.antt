@@ -1,22 +1,18 @@
-use Rattle.std.proofs.Common.{arith, refl, sym, ap, ◌∙◌, List, ℕ, ◌<◌, length, length-set}
-use Rattle.sets.specs.Set.{member}
+use Rattle.std.proofs.Common.{◌<◌, length, arith, sym, ap, ap₂, ◌∙◌, List, ℕ}
+use Rattle.sets.specs.Set.{member, with_state}
+use Rattle.sets.proofs.EntrySets.{entry_read}
 use Rattle.sets.proofs.StateSets.{member_empty}
+use Rattle.refinement.proofs.RuleRows.{rules_more}
 use Rattle.refinement.proofs.rounds.Replacing.{target_none, hold_next}
 use Rattle.refinement.proofs.rounds.hold_targets.Goals as goal
 
-pub loop-i-init : goal.loop-i-init
-loop-i-init c = (
-  omega arith,
-  refl,
-  λ f h r b.
-      ap (λ (ws : List ℕ). member ws r) (c.requires.by_index f h) ∙ member_empty r b ∙ sym (target_none c.args.others.now f r),
-)
+pub loop-rule-init : goal.loop-rule-init
+loop-rule-init c f h r b = ap (λ (set : List ℕ). member set r) (c.requires f h) ∙ member_empty r b ∙ sym (target_none f r)
 
-pub loop-i-preserved : goal.loop-i-preserved
-loop-i-preserved c =
-    let room : c.symbol_of-f.result < length c.loop-i.holders = omega arith in (
-      omega arith,
-      simp length-set c.loop-i.invariant.1,
-      rw (c.with.ensures, c.target_of.ensures, c.row_of.ensures, c.symbol_of-f.ensures)
-          (hold_next c.args.others.now c.loop-i.i c.loop-i.holders (rw c.symbol_of-f.ensures at room) c.loop-i.invariant.2),
-    )
+pub loop-rule-preserved : goal.loop-rule-preserved
+loop-rule-preserved c =
+    let room : c.from.result < length c.loop-rule.holders = omega arith in
+    rw (rules_more c.args.others.now c.loop-rule.rule-index c.rule-item.result c.loop-rule-test.true c.rule-item.is)
+    (hold_next _ _ c.loop-rule.holders c.from.result c.insert.new.self (c.from.ensures ∙ c.symbol.ensures) room
+    (c.insert.ensures ∙ ap₂ with_state (entry_read c.loop-rule.holders _ _ room) c.target.ensures)
+    c.loop-rule.invariant)

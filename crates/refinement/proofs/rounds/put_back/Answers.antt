@@ -1,18 +1,24 @@
-use Rattle.std.proofs.Common.{◌≡◌, arith, rules, sym, length}
-use Rattle.refinement.proofs.rounds.Replacing.{replaced_in, replaced_out}
+use Rattle.std.proofs.Common.{arith, ap, ◌∙◌}
+use Rattle.sets.specs.Entries.{entry_at}
+use Rattle.sets.proofs.EntrySets.{entry_read}
+use Rattle.sets.proofs.StateLoops.{states_passed, among_done}
+use Rattle.refinement.proofs.rounds.Replacing.{replaced_none, replaced_more, replaced_in, replaced_out}
 use Rattle.refinement.proofs.rounds.put_back.Goals as goal
-use Rattle.refinement.proofs.rounds.put_back.Goals.{then-has, else-has}
+
+pub loop-q-init : goal.loop-q-init
+loop-q-init c = replaced_none _ _
 
 pub loop-q-preserved : goal.loop-q-preserved
 loop-q-preserved c =
-    elim c.if-has.branch [
-      | then-has w ↦
-          let four : length w.row_of.result.words ≡ 4 = search rules in
-          rw w.words-is (
-            omega arith,
-            omega arith,
-            rw (w.put_entry.ensures, w.row_of.ensures)
-                (replaced_in c.loop-q.invariant.2 (omega arith) (rw w.row_of.ensures at four) (sym w.if-has.ensures)),
-          )
-      | else-has w ↦ rw w.words-is (omega arith, omega arith, replaced_out c.loop-q.invariant.2 (sym w.if-has.ensures))
-    ]
+    replaced_more _ _ _ c.loop-q.invariant c.from-in-loop-q.ensures (omega arith)
+    (entry_read c.args.next.now _ _ (omega arith) ∙ ap (entry_at c.args.next.now) c.from.ensures)
+
+pub returns-clause-changed : goal.returns-clause-changed
+returns-clause-changed c q h =
+    let p = states_passed c.args.changed.words _ _ c.states-q-items.ensures c.into_iter-q-iterator.ensures.into_iter_gives c.loop-q.yielded_by in
+    replaced_in _ c.loop-q.invariant (among_done p c.in-None.ensures.steps.0) q h
+
+pub returns-clause-others : goal.returns-clause-others
+returns-clause-others c q h =
+    let p = states_passed c.args.changed.words _ _ c.states-q-items.ensures c.into_iter-q-iterator.ensures.into_iter_gives c.loop-q.yielded_by in
+    replaced_out _ c.loop-q.invariant (among_done p c.in-None.ensures.steps.0) q h

@@ -1,87 +1,77 @@
-use Rattle.std.proofs.Common.{◌≡◌, ◌∙◌, ◌<◌, ℕ, true, false, arith, sym, ap, length-set}
+use Rattle.std.proofs.Common.{ℕ, List, ◌≡◌, ◌∙◌, true, false, not, take, get_or, arith, sym, ap}
+use Rattle.std.proofs.lemmas.List.{take_all}
+use lib.Dec.{eqb}
+use lib.Pointwise.{pointwise}
+use borrow.Author.Tests.{not-true, not-false}
 use Rattle.lists.specs.Lists.{any}
 use Rattle.sets.specs.Set.{member}
-use Rattle.automaton.specs.Row.{rule_at, rules_in}
+use Rattle.sets.specs.Entries.{entry_at}
+use Rattle.sets.specs.Inner.{Has}
+use Rattle.sets.specs.declared.set.StateSet.{StateSet}
+use Rattle.sets.proofs.EntrySets.{entry_read}
+use Rattle.sets.proofs.StateSets.{same_pairs, same_set_out, sets_differ}
+use Rattle.automaton.specs.Row.{rule_of, rules_of}
 use Rattle.refinement.specs.Inner.{touches}
+use Rattle.refinement.proofs.RuleRows.{rules_more, rule_in}
 use Rattle.refinement.proofs.rounds.Underway.{rounded_none, rounded_pass, rounded_kept, rounded_fewer, rounded_all, rounded_below}
 use Rattle.refinement.proofs.rounds.round.Goals as goal
-use Rattle.refinement.proofs.rounds.round.Goals.{then-touched+then-fewer, then-touched+else-fewer, else-touched}
+use Rattle.refinement.proofs.rounds.round.Goals.{then-has_any+then-ne, then-has_any+else-ne, else-has_any}
 
-pub loop-i-init : goal.loop-i-init
-loop-i-init c = (
-  omega arith,
-  c.requires.words_len.1,
-  λ n m j a.
-      rw c.empty-lost.ensures
-      (rounded_none _ (touches c.args.changed.words) (rules_in c.args.others.now j) _ c.args.rows.now _ a.states c.requires.words_len.0 a.copied),
-)
+-- The row that was and the narrowed one.
+module _ (now was : StateSet) {row : List ℕ} (is : was.words ≡ row) where
+  same_row : false ≡ not (pointwise eqb now.words was.words) → now.words ≡ row
+  same_row e = same_set_out now.words was.words now.four was.four (sym (same_pairs now was) ∙ not-false _ (sym e)) ∙ is
 
--- The row of a rule's target is one set.
-pub slice_bounds-narrow-end : goal.slice_bounds-narrow-end
-slice_bounds-narrow-end c =
-    let a = c.requires.by_index.1.1.1 in
-    let low : c.target_of-q.result < c.requires.by_index.0 = omega (arith, a.targets c.loop-i.i c.loop-i-test.true, c.target_of-q.ensures) in
-    sym ((c.loop-i.invariant.2 _ _ _ a).four _ low)
+  other_row : true ≡ not (pointwise eqb now.words was.words) → Has now.words (member row) → ⊥
+  other_row e = rw (← is) (sets_differ now.words was.words now.four was.four now.bits was.bits (sym (same_pairs now was) ∙ not-true _ (sym e)))
 
-pub narrow-fewer-requires-clause-row_len : goal.narrow-fewer-requires-clause-row_len
-narrow-fewer-requires-clause-row_len c =
-    let a = c.requires.by_index.1.1.1 in
-    let low : c.target_of-q.result < c.requires.by_index.0 = omega (arith, a.targets c.loop-i.i c.loop-i-test.true, c.target_of-q.ensures) in
-    ((c.loop-i.invariant.2 _ _ _ a).four _ low, a.rules.row c.loop-i.i c.loop-i-test.true)
+pub loop-rule-init : goal.loop-rule-init
+loop-rule-init c states m a = rw c.empty-lost.ensures (rounded_none _ _ a.copied)
 
-pub narrow-fewer-requires-clause-by_index : goal.narrow-fewer-requires-clause-by_index
-narrow-fewer-requires-clause-by_index c =
-    let a = c.requires.by_index.1.1.1 in
-    let low : c.target_of-q.result < c.requires.by_index.0 = omega (arith, a.targets c.loop-i.i c.loop-i-test.true, c.target_of-q.ensures) in
-    (_, (_, (a.answering, rounded_below a.states (c.loop-i.invariant.2 _ _ _ a) _ a.low _ low)))
+pub narrow-narrowed-requires : goal.narrow-narrowed-requires
+narrow-narrowed-requires c =
+    let a = c.requires.1.1 in
+    let known = a.targets _ (rule_in c.args.rules.now _ _ c.loop-rule-test.true c.rule-item.is) in (
+      _,
+      (
+        a.answering,
+        rw (entry_read c.loop-rule.next c.from.result c.index-next-from.result (omega arith), c.from.ensures, c.target-q.ensures)
+            (rounded_below (c.loop-rule.invariant _ _ a) _ a.low _ known.0 known.1),
+      ),
+    )
 
-pub loop-i-preserved : goal.loop-i-preserved
+pub loop-rule-preserved : goal.loop-rule-preserved
 unfolding touches
-loop-i-preserved c =
-    let l = c.loop-i in
-    let others = λ (j : ℕ). rules_in c.args.others.now j in
-    let u = rule_at c.args.rows.now l.i in
-    let children = ap (any (member c.args.changed.words)) c.children_of.ensures in
-    elim c.if-touched.branch [
-      | then-touched+then-fewer w ↦
-          let touched : touches c.args.changed.words u ≡ true = sym (w.if-touched.ensures ∙ children) in
-          rw (w.next-is, w.lost-is, w.with-lost.ensures) (
-            omega arith,
-            rw length-set l.invariant.1,
-            λ n m j a.
-                let low : w.target_of-q.result < n = omega (arith, a.targets l.i c.loop-i-test.true, w.target_of-q.ensures) in
-                let r = l.invariant.2 n m j a in
-                rounded_fewer (touches c.args.changed.words) (others j) c.args.rows.now l.i a.states r w.target_of-q.result
-                w.narrow-fewer.new.row touched w.target_of-q.ensures low (omega (arith, l.invariant.1, a.states))
-                (w.narrow-fewer.auto.row ∙ r.four _ low)
-                (w.narrow-fewer.ensures.by_index_2 j m a.answering (rounded_below a.states r m a.low _ low))
-                (w.narrow-fewer.ensures.fact w.if-fewer.true),
-          )
-      | then-touched+else-fewer w ↦
-          let touched : touches c.args.changed.words u ≡ true = sym (w.if-touched.ensures ∙ children) in
-          rw (w.next-is, w.lost-is) (
-            omega arith,
-            rw length-set l.invariant.1,
-            λ n m j a.
-                let low : w.target_of-q.result < n = omega (arith, a.targets l.i c.loop-i-test.true, w.target_of-q.ensures) in
-                let r = l.invariant.2 n m j a in
-                rounded_kept (touches c.args.changed.words) (others j) c.args.rows.now l.i a.states r w.target_of-q.result
-                w.narrow-fewer.new.row touched w.target_of-q.ensures low (omega (arith, l.invariant.1, a.states))
-                (w.narrow-fewer.auto.row ∙ r.four _ low)
-                (w.narrow-fewer.ensures.by_index_2 j m a.answering (rounded_below a.states r m a.low _ low))
-                (w.narrow-fewer.ensures.row_unchanged w.if-fewer.false),
-          )
-      | else-touched w ↦
-          let out : touches c.args.changed.words u ≡ false = sym (w.if-touched.ensures ∙ children) in
-          rw (w.next-is, w.lost-is) (
-            omega arith,
-            l.invariant.1,
-            λ n m j a.
-                rounded_pass (touches c.args.changed.words) (others j) c.args.rows.now l.i a.states (l.invariant.2 n m j a) out,
-          )
-    ]
+loop-rule-preserved c states m a =
+    let known = a.targets _ (rule_in c.args.rules.now _ _ c.loop-rule-test.true c.rule-item.is) in
+    let touched = touches c.args.changed.words in
+    let others = rules_of c.args.others.now in
+    let passed = rules_of (take c.loop-rule.rule-index c.args.rules.now) in
+    let u = rule_of c.rule-item.result in
+    let before = c.loop-rule.invariant states m a in
+    let children = ap (any (member c.args.changed.words)) c.children.ensures in
+    rw (rules_more c.args.rules.now c.loop-rule.rule-index c.rule-item.result c.loop-rule-test.true c.rule-item.is)
+    (elim c.if-has_any.branch [
+      | then-has_any+then-ne w ↦
+          let was = get_or c.loop-rule.next w.from.result w.index-next-from.result in
+          let held = entry_read c.loop-rule.next w.from.result w.index-next-from.result (omega arith)
+          ∙ ap (entry_at c.loop-rule.next) (w.from.ensures ∙ w.target-q.ensures) in
+          let narrowed = rw held at (w.narrow-narrowed.ensures m a.answering (rw held (rounded_below before m a.low u.target known.0 known.1))) in
+          rw (w.next-is, w.lost-is, w.insert.ensures, w.from-then-ne.ensures, w.target-q.ensures)
+          (rounded_fewer touched others passed u before w.narrow-narrowed.result (sym (w.if-has_any.ensures ∙ children)) known.0 known.1 narrowed
+          (omega arith) (other_row w.narrow-narrowed.result was held w.if-ne.ensures))
+      | then-has_any+else-ne w ↦
+          let was = get_or c.loop-rule.next w.from.result w.index-next-from.result in
+          let held = entry_read c.loop-rule.next w.from.result w.index-next-from.result (omega arith)
+          ∙ ap (entry_at c.loop-rule.next) (w.from.ensures ∙ w.target-q.ensures) in
+          let narrowed = rw held at (w.narrow-narrowed.ensures m a.answering (rw held (rounded_below before m a.low u.target known.0 known.1))) in
+          rw (w.next-is, w.lost-is)
+          (rounded_kept touched others passed u before w.narrow-narrowed.result (sym (w.if-has_any.ensures ∙ children)) known.0 known.1 narrowed
+          (same_row w.narrow-narrowed.result was held w.if-ne.ensures))
+      | else-has_any w ↦ rw (w.next-is, w.lost-is) (rounded_pass touched others passed u before (sym (w.if-has_any.ensures ∙ children)))
+    ])
 
 pub returns : goal.returns
-returns c n m j a quiet =
-    let end : c.loop-i.i ≡ c.args.k = omega arith in
-    rounded_all _ (rules_in c.args.others.now j) c.args.changed.words a.states quiet (rw end at (c.loop-i.invariant.2 n m j a))
+returns c states m a quiet =
+    let all : take c.loop-rule.rule-index c.args.rules.now ≡ c.args.rules.now = take_all c.loop-rule.rule-index c.args.rules.now (omega arith) in
+    rounded_all _ _ _ quiet (rw all at (c.loop-rule.invariant states m a))

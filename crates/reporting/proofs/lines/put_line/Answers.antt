@@ -1,4 +1,4 @@
-use Rattle.std.proofs.Common.{◌≡◌, ◌*◌, ◌≤◌, List, ℕ, length, take, get_or, append_assoc, arith, rules}
+use Rattle.std.proofs.Common.{◌≡◌, ◌*◌, ◌≤◌, List, ℕ, length, take, get_or, append_assoc, arith}
 use lib.Seq.{take_all, length-take-le}
 use Rattle.lists.specs.Lists.{All}
 use Rattle.lists.proofs.Elements.{all_at, all_take}
@@ -12,39 +12,37 @@ use Rattle.reporting.proofs.lines.put_line.Goals as goal
 written_short : (vs : List ℕ) (j : ℕ) → All Short vs → j ≤ length vs → length (numbers_in (take j vs)) ≤ 6 * j
 written_short vs j short h = omega (arith, numbers_short (all_take j vs short), length-take-le j vs h)
 
-pub loop-j-init : goal.loop-j-init
+pub loop-v-init : goal.loop-v-init
 unfolding numbers_in
-loop-j-init c = (search rules, search rules, put_none _ _)
+loop-v-init c = put_none _ _
 
 pub put_number-end-requires : goal.put_number-end-requires
 put_number-end-requires c =
-    let room = written_short _ _ c.requires.all c.loop-j.invariant.0 in
-    (all_at c.requires.all c.loop-j.j (omega arith), omega arith)
+    let room = written_short _ c.loop-v.v-index c.requires.all (omega arith) in
+    (all_at c.requires.all c.loop-v.v-index (omega arith), omega arith)
 
-pub loop-j-preserved : goal.loop-j-preserved
-loop-j-preserved c =
+pub loop-v-preserved : goal.loop-v-preserved
+loop-v-preserved c =
     let vs = c.args.numbers.now in
-    let j = c.loop-j.j in
-    let room = written_short _ _ c.requires.all c.loop-j.invariant.0 in
-    let few = digits_few (get_or vs j 0) (all_at c.requires.all j (omega arith)) in (
-      search rules,
-      search rules,
-      rw (← numbers_next vs j (omega arith))
-          (put_then _ _ _ _ _ _ _ _ c.loop-j.invariant.2 c.put_number-end.ensures (omega arith)),
-    )
+    let j = c.loop-v.v-index in
+    let room = written_short _ j c.requires.all (omega arith) in
+    let few = digits_few (get_or vs j 0) (all_at c.requires.all j (omega arith)) in
+    rw (← numbers_next vs j (omega arith))
+    (put_then _ _ _ _ _ _ _ _ c.loop-v.invariant c.put_number-end.ensures (omega arith))
 
 pub bounds-out-end : goal.bounds-out-end
-bounds-out-end c = omega (arith, written_short _ _ c.requires.all c.loop-j.invariant.0)
+bounds-out-end c = omega (arith, written_short _ c.loop-v.v-index c.requires.all (omega arith))
 
 pub overflow_add-result : goal.overflow_add-result
-overflow_add-result c = omega (arith, written_short _ _ c.requires.all c.loop-j.invariant.0)
+overflow_add-result c = omega (arith, written_short _ c.loop-v.v-index c.requires.all (omega arith))
 
 pub returns : goal.returns
 unfolding line
 returns c =
     let vs = c.args.numbers.now in
-    let room = written_short _ _ c.requires.all c.loop-j.invariant.0 in
-    let all : take c.loop-j.j vs ≡ vs = take_all c.loop-j.j vs (omega arith) in
+    let j = c.loop-v.v-index in
+    let room = written_short _ j c.requires.all (omega arith) in
+    let all : take j vs ≡ vs = take_all j vs (omega arith) in
     simp append_assoc at (put_then _ _ _ _ _ _ _ _
-    (put_then _ _ _ _ _ _ _ _ c.put_word-end.ensures (rw all at c.loop-j.invariant.2) (omega arith))
+    (put_then _ _ _ _ _ _ _ _ c.put_word-end.ensures (rw all at c.loop-v.invariant) (omega arith))
     (put_byte _ _ 10 (omega arith)) (omega arith))

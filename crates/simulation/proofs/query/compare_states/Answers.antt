@@ -1,26 +1,24 @@
 -- None where the pair is in the relation, and otherwise the first rule without a match.
-use Rattle.std.proofs.Common.{sym, ap, ◌∙◌, arith}
+use Rattle.std.proofs.Common.{◌≡◌, sym, ap, ◌∙◌, arith}
+use Rattle.indexing.specs.Index.{numbers_of}
 use Rattle.refinement.specs.Simulation.{Relation, related}
-use Rattle.refinement.proofs.RelationRows.{zero_words}
-use Rattle.simulation.specs.Query.{compared_by, is_yes}
+use Rattle.simulation.specs.Query.{simulation_of, compared_by, is_yes}
 use Rattle.simulation.proofs.Queries.{first_answers}
 use Rattle.simulation.proofs.query.compare_states.Goals as goal
 
-pub simulate_all-requires-clause-by_index : goal.simulate_all-requires-clause-by_index
-simulate_all-requires-clause-by_index c = zero_words 1024
-
-pub returns-then-has_pair : goal.returns-then-has_pair
+pub returns-then-has : goal.returns-then-has
 unfolding is_yes compared_by
-returns-then-has_pair c = record {
-  verdict = sym c.if-has_pair.true ∙ c.has_pair.ensures
-      ∙ ap (λ (R : Relation). related R c.args.q c.args.r) c.simulate_all.ensures.words_after;
+returns-then-has c = record {
+  verdict = sym c.if-has.true ∙ c.has.ensures ∙ ap (λ (R : Relation). related R c.args.q c.args.r) c.simulate_all.ensures.relation_after;
   first = λ i f. cc;
 }
 
 pub returns : goal.returns
+unfolding simulation_of
 returns c =
-    let out = sym (c.has_pair.ensures ∙ ap (λ (R : Relation). related R c.args.q c.args.r) c.simulate_all.ensures.words_after)
-    ∙ c.if-has_pair.false in
-    let numbers = c.rules_of-numbers.ensures ∙ c.simulate_all.ensures.answering.index_is.numbers c.args.r (omega arith) in
-    first_answers _ _ _ _ _ (omega arith) (omega arith) _ out
-    (rw c.simulate_all.ensures.words_after at (c.first_unmatched.ensures c.args.r numbers))
+    let after = c.simulate_all.ensures.relation_after in
+    let out = sym (c.has.ensures ∙ ap (λ (R : Relation). related R c.args.q c.args.r) after) ∙ c.if-has.false in
+    let part : c.numbers_of-numbers.result.now ≡ numbers_of c.simulate_all.new.index c.args.r = rw c.from.ensures at c.numbers_of-numbers.ensures in
+    let numbers = part ∙ c.simulate_all.ensures.answering.index_is.numbers c.args.r (omega arith) in
+    first_answers _ _ _ _ (omega arith) (omega arith) _ out
+    (rw (after, c.rules.ensures) at (c.first_unmatched.ensures c.args.r (rw c.rules.ensures numbers)))

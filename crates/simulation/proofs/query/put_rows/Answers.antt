@@ -1,29 +1,25 @@
-use Rattle.std.proofs.Common.{ℕ, arith, ◌≡◌, ◌∙◌, ap, ◌*◌, ◌∷◌, [], length-take-le}
-use Rattle.std.proofs.lemmas.List.{get_or-take}
-use Rattle.lists.specs.Lists.{from}
+use Rattle.std.proofs.Common.{◌∙◌, ap, refl, arith, take}
+use Rattle.std.proofs.lemmas.Slice.{put_mid-paste}
 use Rattle.lists.specs.Over.{over}
 use Rattle.lists.proofs.Overwriting.{over_nil}
+use Rattle.sets.specs.Entries.{entry_at}
+use Rattle.sets.specs.Inner.{set_bytes}
+use Rattle.sets.proofs.EntrySets.{entry_is}
 use Rattle.simulation.specs.Inner.{bytes_of}
-use Rattle.simulation.proofs.RelationBytes.{word_next}
+use Rattle.simulation.proofs.RelationBytes.{length_set, entry_taken, bytes_next}
 use Rattle.simulation.proofs.query.put_rows.Goals as goal
 
-pub put_word-requires : goal.put_word-requires
-put_word-requires c =
-    omega (arith, length-take-le (4 * c.args.n) c.args.words.now (omega arith))
+pub loop-q-init : goal.loop-q-init
+unfolding bytes_of
+loop-q-init c = over_nil _ _
 
-pub loop-i-init : goal.loop-i-init
-unfolding bytes_of from
-loop-i-init c = over_nil _ _
-
-pub loop-i-preserved : goal.loop-i-preserved
-loop-i-preserved c =
-    let count = length-take-le (4 * c.args.n) c.args.words.now (omega arith) in
-    let word = get_or-take (4 * c.args.n) c.args.words.now c.loop-i.i 0 (omega arith) in
-    word_next c.args.out.now c.args.words.now _ c.loop-i.i _ c.loop-i.invariant
-    (c.put_word.ensures ∙ ap (λ (w : ℕ). over c.loop-i.out (8 * c.loop-i.i) (bytes_of (w ∷ []) 8)) word) (omega arith)
-
-pub returns : goal.returns
-returns c =
-    let count = length-take-le (4 * c.args.n) c.args.words.now (omega arith) in
-    let all : 8 * c.loop-i.i ≡ 32 * c.args.n = omega arith in
-    rw all at c.loop-i.invariant
+pub loop-q-preserved : goal.loop-q-preserved
+unfolding over
+loop-q-preserved c =
+    let rows = c.args.relation.now.rows in
+    let q = c.loop-q.q in
+    let row = entry_is (take c.args.n rows) q c.row-item.result (omega arith) c.row-item.is ∙ entry_taken rows c.args.n q (omega arith) in
+    bytes_next c.args.out.now rows c.loop-q.out q _ c.loop-q.invariant
+    (put_mid-paste _ _ _ _ (set_bytes (entry_at rows q)) _ (c.copy_from_slice.ensures.after ∙ c.bytes.ensures ∙ ap set_bytes row)
+    (length_set (entry_at rows q) ∙ omega arith) refl)
+    (omega arith)

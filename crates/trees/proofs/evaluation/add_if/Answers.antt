@@ -1,10 +1,11 @@
 -- A bit of 1 is the store of `with_state`; a bit of 0 stores what stood there.
-use Rattle.std.proofs.Common.{ℕ, ◌*◌, ◌/◌, ◌%◌, ◌^◌, ◌≤◌, ◌<◌, ◌≡◌, refl, ap, List, Bool, true, false, cond, length, get_or, set, eqb, bit_or, arith}
+use Rattle.std.proofs.Common.{ℕ, ◌*◌, ◌/◌, ◌%◌, ◌^◌, ◌<◌, ◌≡◌, refl, ap, List, Bool, true, false, cond, length, get_or, set, eqb, bit_or, arith}
 use native.Mathlib.Nat.{zero-mul}
 use native.Mathlib.Decide.{ℕ_discrete}
 use lib.Seq.{set-get_or, get_or-set_same, get_or-set_other}
 use lib.Bits.{or_zero_r}
-use borrow.Author.Tests.{eqb-true, eqb-false, eq-eqb, ne_eqb}
+use borrow.Author.Tests.{eq-eqb, ne_eqb}
+use mir.Val.{bool_byte}
 use Rattle.sets.specs.Set.{words, replaced, with_state}
 use Rattle.sets.proofs.StateSets.{get_d_words, one_bit}
 use Rattle.trees.specs.Inner.{gathered}
@@ -25,18 +26,18 @@ gathered_at : (ws : List ℕ) (i : ℕ) → i < 4 → get_or (gathered ws) i 0 �
 unfolding gathered
 gathered_at ws i h = get_d_words (λ (j : ℕ). get_or ws (2 * j) 0) i h
 
-module _ (ws : List ℕ) (q bit : ℕ) (eight : length ws ≡ 8) (low : q < 256) (few : bit ≤ 1) where
-  added : (t : Bool) → eqb bit 1 ≡ t
-      → gathered (set ws (2 * (q / 64)) (bit_or (get_or ws (2 * (q / 64)) 0) (bit * 2 ^ (q % 64) % 18446744073709551616)))
+module _ (ws : List ℕ) (q : ℕ) (eight : length ws ≡ 8) (low : q < 256) where
+  added : (t : Bool) → gathered (set ws (2 * (q / 64)) (bit_or (get_or ws (2 * (q / 64)) 0) (cond t 1 0 * 2 ^ (q % 64) % 18446744073709551616)))
       ≡ cond t (with_state (gathered ws) q) (gathered ws)
   unfolding with_state
-  added true e =
-      rw (eqb-true bit 1 e, one_bit (q % 64) (omega arith), ← gathered_at ws (q / 64) (omega arith))
+  added true =
+      rw (one_bit (q % 64) (omega arith), ← gathered_at ws (q / 64) (omega arith))
       (gathered_set ws (q / 64) _ eight (omega arith))
-  added false e =
-      let other : bit ≡ 1 → ⊥ = eqb-false bit 1 e in
-      let none : bit ≡ 0 = omega arith in
-      rw (none, zero-mul, or_zero_r) (ap gathered (set-get_or ws (2 * (q / 64)) 0))
+  added false = rw (zero-mul, or_zero_r) (ap gathered (set-get_or ws (2 * (q / 64)) 0))
+
+byte : (t : Bool) → bool_byte t ≡ cond t 1 0
+byte true = refl
+byte false = refl
 
 pub returns : goal.returns
-returns c = rw c.from-w.ensures (added _ c.args.q c.args.bit c.requires.0 (omega arith) c.requires.1 _ refl)
+returns c = rw (c.from-w.ensures, c.from.ensures, byte c.args.bit) (added c.args.spread.now c.args.q c.told-spread (omega arith) c.args.bit)

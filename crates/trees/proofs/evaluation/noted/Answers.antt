@@ -6,7 +6,7 @@ use Rattle.trees.specs.Subtree.{first_at, first_of}
 use Rattle.trees.specs.Walk.{noted}
 use Rattle.trees.specs.declared.evaluation.Subtree.{Subtree}
 use Rattle.trees.proofs.evaluation.noted.Goals as goal
-use Rattle.trees.proofs.evaluation.noted.Goals.{else-is_none-via-then-is_none+else-same, else-is_none-via-else-is_none}
+use Rattle.trees.proofs.evaluation.noted.Goals.{else-is_none-via-then-is_none+else-is_empty, else-is_none-via-else-is_none}
 
 is_new : (first : Option Subtree) (node size : ℕ) → is_some first ≡ false → first_at node size ≡ noted (first_of first) node size true
 unfolding first_of noted
@@ -23,14 +23,13 @@ unfolding first_of noted
 stays_none None node size = refl
 stays_none (Some t) node size = refl
 
-pub returns-then-same : goal.returns-then-same
+pub returns-then-is_empty : goal.returns-then-is_empty
 unfolding first_of
-returns-then-same c = rw (← c.empty.ensures, ← c.if-same.ensures) (is_new c.args.first _ _ c.if-is_none.ensures)
+returns-then-is_empty c = rw (← c.if-is_empty.ensures) (is_new c.args.first _ _ c.if-is_none.ensures)
 
 pub returns : goal.returns
 returns c =
     elim c.else-is_none.branch [
-      | else-is_none-via-then-is_none+else-same w ↦
-          rw (← w.empty.ensures, ← w.if-same.ensures) (stays_none c.args.first _ _)
+      | else-is_none-via-then-is_none+else-is_empty w ↦ rw (← w.if-is_empty.ensures) (stays_none c.args.first _ _)
       | else-is_none-via-else-is_none w ↦ stays c.args.first _ _ _ w.if-is_none.ensures
     ]

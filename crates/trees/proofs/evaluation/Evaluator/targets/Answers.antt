@@ -1,0 +1,57 @@
+use Rattle.std.proofs.Common.{ℕ, ◌<◌, ◌≤◌, ◌≡◌, List, length, length-take, get_or, arith, ap, ◌∙◌}
+use Rattle.std.proofs.lemmas.List.{length-map}
+use lib.Seq.{take_all}
+use Rattle.lists.specs.Lists.{any}
+use Rattle.sets.specs.Set.{words, empty_set}
+use Rattle.sets.proofs.StateSets.{member_empty}
+use Rattle.automaton.specs.Automaton.{Rule, Automaton}
+use Rattle.automaton.specs.Row.{rule_of, rules_of, rule_at}
+use Rattle.automaton.specs.declared.row.Row.{Row}
+use Rattle.indexing.proofs.Indexing.{at_member}
+use Rattle.trees.specs.Inner.{gathered}
+use Rattle.trees.proofs.evaluation.NodeStates.{targets_one_more, rule_is}
+use Rattle.trees.proofs.evaluation.Evaluator.targets.Goals as goal
+
+pub loop-i-init : goal.loop-i-init
+unfolding any empty_set words gathered
+loop-i-init c = λ q low. member_empty q low
+
+pub bounds-rules-from : goal.bounds-rules-from
+bounds-rules-from c =
+    let ranked = (rw (← c.self.view_is) at c.requires) _ (at_member c.args.numbers.now c.loop-i.i-index c.loop-i-test.true) in
+    rw c.from.ensures (omega (arith, ranked.0, length-map c.self.inside.rules.now rule_of))
+
+-- The rule of the row that is looked at.
+row_rule : (A : Automaton) (rows : List Row) (i k : ℕ) (row : Row) → rules_of rows ≡ A.rules → i ≡ k → k < length A.rules
+    → row ≡ get_or rows i row → rule_of row ≡ rule_at A.rules k
+row_rule A rows i k row are same low is =
+    let within : i < length rows = omega (arith, ap length are, length-map rows rule_of) in
+    rule_is rows i row within is ∙ rw (are, same)
+
+pub slice_bounds-children-end : goal.slice_bounds-children-end
+slice_bounds-children-end c =
+    let ranked = c.requires _ (at_member c.args.numbers.now c.loop-i.i-index c.loop-i-test.true) in
+    let rule = row_rule c.args.self.now _ _ _ _ (ap (λ (A : Automaton). A.rules) c.self.view_is) c.from.ensures ranked.0 c.index-rules-from.is in
+    rw c.children.ensures (omega (arith, length-take {A = ℕ}, ap (λ (u : Rule). length u.children) rule, ranked.1))
+
+pub fits-requires : goal.fits-requires
+fits-requires c = omega (arith, length-take {A = ℕ})
+
+pub loop-i-preserved : goal.loop-i-preserved
+loop-i-preserved c =
+    let ranked = c.requires _ (at_member c.args.numbers.now c.loop-i.i-index c.loop-i-test.true) in
+    let rule = row_rule c.args.self.now _ _ _ _ (ap (λ (A : Automaton). A.rules) c.self.view_is) c.from.ensures ranked.0 c.index-rules-from.is in
+    let all : length (rule_of c.index-rules-from.result).children ≤ length c.args.trees.now =
+    omega (arith, ap (λ (u : Rule). length u.children) rule, ranked.1) in
+    rw (
+      c.add_if.ensures,
+      c.target.ensures,
+      c.fits.ensures,
+      c.children.ensures,
+      take_all (length c.args.trees.now) (rule_of c.index-rules-from.result).children all,
+    )
+    (rw (← rule) at (targets_one_more c.args.self.now.rules c.args.numbers.now c.args.trees.now _ c.loop-i.i-index c.loop-i-test.true c.loop-i.invariant))
+
+pub returns : goal.returns
+returns c =
+    rw (c.gathered.ensures, ← take_all c.loop-i.i-index c.args.numbers.now c.loop-i-test.false) c.loop-i.invariant
