@@ -125,7 +125,7 @@ uint32_t fensullay_judge(const uint8_t *table, size_t table_length, size_t *numb
  *   8 to 11      the tree is refused; `numbers` stays
  *   SHORT_ARRAY  fewer than 3 counts or fewer than 2 numbers; both arrays stay, and nothing is counted
  * The subtree is that of this table: with the reduced table a check may name another one.
- * Stack: 49 KiB. No heap, no threads, no locale.
+ * Stack: 55 KiB. No heap, no threads, no locale.
  */
 uint32_t fensullay_check(
     uint32_t *counts, size_t counts_length, const uint8_t *table, size_t table_length, const uint8_t *tree, size_t tree_length,
@@ -163,7 +163,7 @@ uint32_t fensullay_compare(const uint8_t *table, size_t table_length, size_t q, 
  *   1 to 7       the table is refused; `out` and `numbers` stay
  *   13           `out` is shorter than the reduced table; it stays, and `numbers` too. An `out` as long as the table is never too short
  *   SHORT_ARRAY  fewer than 6 numbers; they stay, and `out` too
- * Stack: 31 KiB. No heap, no threads, no locale.
+ * Stack: 33 KiB. No heap, no threads, no locale.
  */
 uint32_t fensullay_reduce(
     const uint8_t *table, size_t table_length, uint8_t *out, size_t out_length, size_t *numbers, size_t numbers_length);
@@ -178,7 +178,7 @@ uint32_t fensullay_reduce(
  *   OK           `out` begins with the lines, also with those of a refused table, without a 0 after them; their length stands in `numbers`
  *   13           `out` is shorter than the lines; it stays, and `numbers` too
  *   SHORT_ARRAY  numbers_length is 0; `out` stays
- * Stack: 31 KiB. No heap, no threads, no locale.
+ * Stack: 33 KiB. No heap, no threads, no locale.
  */
 uint32_t fensullay_report(
     const uint8_t *input, size_t input_length, uint8_t *out, size_t out_length, size_t *numbers, size_t numbers_length);

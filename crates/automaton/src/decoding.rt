@@ -1,18 +1,17 @@
 // A table judged and, in the same pass, decoded: its rules stand in an array that the caller lends.
-ghost use Rattle.std.specs.Prelude.{◌≡◌, List, ℕ, ◌≤◌, ◌<◌, length, take};
+ghost use Rattle.std.specs.Prelude.{◌≡◌, ℕ, ◌<◌};
 ghost use Rattle.lists.specs.Lists.{All};
 ghost use Rattle.sets.specs.Inner.{states_in, set_of};
 ghost use Rattle.records.specs.Bytes.{numbers};
-ghost use Rattle.records.specs.Read.{found};
 ghost use Rattle.records.specs.Answers.{reading_of};
 ghost use Rattle.automaton.specs.Table as table;
-ghost use Rattle.automaton.specs.Automaton.{Rule, WellFormed};
+ghost use Rattle.automaton.specs.Automaton.{WellFormed};
 ghost use Rattle.automaton.specs.Row.{rules_of};
-ghost use Rattle.automaton.specs.Inner.{passing, RowsRoom};
+ghost use Rattle.automaton.specs.Inner.{RowsRoom};
 
 use crate::row::Row;
-use crate::table::{Size, judge_end, judge_head, rule_end};
-use records::{Refusal, body};
+use crate::table::{Size, judge_head, read_rules};
+use records::Refusal;
 use sets::StateSet;
 use std::marker::Model;
 
@@ -83,24 +82,6 @@ fn set_of(b: &[u8]) -> StateSet
     set
 }
 
-// k rules, and nothing after them; each rule's row is put as the rule passes.
-fn decode_rules(t: &[u8], n: usize, ranks: &[u8], k: usize, rows: &mut [Row]) -> Result<(), Refusal>
-    requires n_bound { (n ≤ 256) × (k ≤ 1024) }
-    requires ranks_len_bound { (length ranks.now ≤ 256) × All (λ (r : ℕ). r ≤ 8) ranks.now }
-    requires rows_room { RowsRoom t.now rows.old }
-    ensures result_value { reading_of result ≡ passing (table.judge_rules n ranks.now k t.now) }
-    ensures rules { (rules : List Rule) → table.judge_rules n ranks.now k t.now ≡ found rules
-        → (k ≤ length rows.new) × (rules_of (take k rows.new) ≡ rules) }
-{
-    let mut rest = t;
-    for i in 0..k {
-        let end = rule_end(rest, n, ranks)?;
-        rows[i] = Row::read(body(rest));
-        rest = &rest[end..];
-    }
-    judge_end(rest)
-}
-
 // Judges a table as `judge` does and decodes it: its rules to the start of the lent array, which is for work: what a refused table leaves there means
 // nothing.
 pub fn decode<'t, 'r>(t: &'t [u8], rows: &'r mut [Row]) -> Result<Table<'t, 'r>, Refusal>
@@ -109,7 +90,7 @@ pub fn decode<'t, 'r>(t: &'t [u8], rows: &'r mut [Row]) -> Result<Table<'t, 'r>,
 {
     let head = judge_head(t)?;
     let count = head.size.rules;
-    decode_rules(head.rules, head.size.states, head.ranks, count, rows)?;
+    read_rules(head.rules, head.size.states, head.ranks, count, rows)?;
     Ok(Table {
         states: head.size.states,
         ranks: head.ranks,

@@ -11,7 +11,7 @@ mod writing;
 pub use records::{Opened, Refusal, body, open};
 pub use table::{Size, judge};
 
-// Exported for the crates above: these ask for numbers or arrays in range.
+// Exported for the crates above. `decode` asks for room in its array.
 pub use decoding::{Table, decode};
 pub use row::{FEW_RULES, RULES, Row};
 pub use writing::write;

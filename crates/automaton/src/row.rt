@@ -69,7 +69,8 @@ impl Row {
     }
 
     // The rule with new names for its states.
-    pub fn renamed(self, names: &[u8; 256]) -> Row
+    pub fn renamed(self, names: &[u8]) -> Row
+        requires { 256 ≤ length names.now }
         ensures { rule_of result ≡ renamed (λ (q : ℕ). get_or names.now q 0) (rule_of self) }
     {
         let mut children = self.children;

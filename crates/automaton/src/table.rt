@@ -1,17 +1,20 @@
 // Tables, judged record by record.
-ghost use Rattle.std.specs.Prelude.{◌≡◌, List, ℕ, ◌≤◌, length, leb, ltb};
+ghost use Rattle.std.specs.Prelude.{◌≡◌, List, ℕ, ◌≤◌, length, take, leb, ltb};
 ghost use Rattle.lists.specs.Lists as lists;
 ghost use Rattle.records.specs.Bytes.{numbers};
 ghost use Rattle.records.specs.Record.{opened, body_of};
-ghost use Rattle.records.specs.Read.{Read, map_read};
+ghost use Rattle.records.specs.Read.{Read, found, map_read};
 ghost use Rattle.records.specs.Kind.{code_of};
 ghost use Rattle.records.specs.Refusal.{number_of};
 ghost use Rattle.records.specs.Answers.{reading_of};
 ghost use Rattle.automaton.specs.Table as table;
+ghost use Rattle.automaton.specs.Automaton.{Rule};
+ghost use Rattle.automaton.specs.Row.{rules_of};
 ghost use Rattle.automaton.specs.Decoded.{sized};
-ghost use Rattle.automaton.specs.Inner.{passing, Reads, parts_of, judge_head};
+ghost use Rattle.automaton.specs.Inner.{passing, Reads, parts_of, judge_head, RowsRoom};
 ghost use Rattle.std.specs.Fn.{FnOnceReturnsAt};
 
+use crate::row::Row;
 use records::{Kind, Opened, Refusal, body, number2, open};
 
 // The counts of a table: n, m and k.
@@ -165,7 +168,7 @@ fn record_end<F: FnOnce(&[u8]) -> Result<(), Refusal>>(
 }
 
 // Where the next rule ends.
-pub fn rule_end(t: &[u8], n: usize, ranks: &[u8]) -> Result<usize, Refusal>
+fn rule_end(t: &[u8], n: usize, ranks: &[u8]) -> Result<usize, Refusal>
     ensures { reading_of result ≡ table.judge_record 4 7 (table.judge_rule n ranks.now) t.now }
 {
     record_end(
@@ -177,7 +180,7 @@ pub fn rule_end(t: &[u8], n: usize, ranks: &[u8]) -> Result<usize, Refusal>
 }
 
 // What stands after the last rule: nothing, or a cause of refusal.
-pub fn judge_end(t: &[u8]) -> Result<(), Refusal>
+fn judge_end(t: &[u8]) -> Result<(), Refusal>
     ensures { (n : ℕ) (ranks : List ℕ) → reading_of result ≡ passing (table.judge_rules n ranks 0 t.now) }
 {
     if t.is_empty() {
@@ -187,13 +190,27 @@ pub fn judge_end(t: &[u8]) -> Result<(), Refusal>
     Err(Refusal::WrongRuleCount)
 }
 
-// k rules, and nothing after them.
-fn judge_rules(t: &[u8], n: usize, ranks: &[u8], k: usize) -> Result<(), Refusal>
-    ensures { reading_of result ≡ passing (table.judge_rules n ranks.now k t.now) }
+// k rules, and nothing after them; as a rule passes its row is put where there is room for it.
+pub fn read_rules(
+    t: &[u8],
+    n: usize,
+    ranks: &[u8],
+    k: usize,
+    rows: &mut [Row],
+) -> Result<(), Refusal>
+    requires n_bound { (n ≤ 256) × (k ≤ 1024) }
+    requires ranks_len_bound { (length ranks.now ≤ 256) × lists.All (λ (r : ℕ). r ≤ 8) ranks.now }
+    ensures result_value { reading_of result ≡ passing (table.judge_rules n ranks.now k t.now) }
+    ensures rules { RowsRoom t.now rows.old → (rules : List Rule) → table.judge_rules n ranks.now k t.now ≡ found rules
+        → (k ≤ length rows.new) × (rules_of (take k rows.new) ≡ rules) }
 {
     let mut rest = t;
-    for _ in 0..k {
+    // By number: where the table is short there may be fewer rows than it says that it has rules.
+    for i in 0..k {
         let end = rule_end(rest, n, ranks)?;
+        if i < rows.len() {
+            rows[i] = Row::read(body(rest));
+        }
         rest = &rest[end..];
     }
     judge_end(rest)
@@ -247,6 +264,6 @@ pub fn judge(t: &[u8]) -> Result<Size, Refusal>
 {
     let head = judge_head(t)?;
     let size = head.size;
-    judge_rules(head.rules, size.states, head.ranks, size.rules)?;
+    read_rules(head.rules, size.states, head.ranks, size.rules, &mut [])?;
     Ok(size)
 }

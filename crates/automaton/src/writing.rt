@@ -32,7 +32,7 @@ fn put_rule(out: &mut [u8], at: usize, rule: &Row) -> usize
     ensures out_after { out.new ≡ over out.old at (encode_rule (rule_of rule.now)) }
 {
     let children = rule.children();
-    put_head(out, at, Kind::Rule, 4 + 2 * children.len());
+    put_head(out, at, u16::from(Kind::Rule), 4 + 2 * children.len());
     put2(out, at + 6, u16::from(rule.symbol()));
     put2(out, at + 8, u16::from(rule.target()));
     put_fields(out, at + 10, children);
@@ -69,7 +69,7 @@ fn put_size(out: &mut [u8], size: Size)
     ensures { out.new ≡ over out.old 0
         (encode_record 1 (fields (size.states ∷ size.symbols ∷ size.rules ∷ []))) }
 {
-    put_head(out, 0, Kind::Size, 6);
+    put_head(out, 0, u16::from(Kind::Size), 6);
     put2(out, 6, size.states as u16);
     put2(out, 8, size.symbols as u16);
     put2(out, 10, size.rules as u16);
@@ -81,7 +81,7 @@ fn put_ranks(out: &mut [u8], at: usize, ranks: &[u8])
     requires in_bounds { at + 6 + length ranks.now ≤ length out.old }
     ensures { out.new ≡ over out.old at (encode_record 2 ranks.now) }
 {
-    put_head(out, at, Kind::Ranks, ranks.len());
+    put_head(out, at, u16::from(Kind::Ranks), ranks.len());
     put_bytes(out, at + 6, ranks);
 }
 
@@ -90,7 +90,7 @@ fn put_finals(out: &mut [u8], at: usize, finals: StateSet)
     requires { at + 6 + 2 * length (states_in 256 finals.words) ≤ length out.old }
     ensures { out.new ≡ over out.old at (encode_record 3 (fields (states_in 256 finals.words))) }
 {
-    put_head(out, at, Kind::Finals, 2 * finals.len());
+    put_head(out, at, u16::from(Kind::Finals), 2 * finals.len());
     put_states(out, at + 6, finals);
 }
 

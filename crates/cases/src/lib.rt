@@ -29,7 +29,7 @@ pub fn run<R: Read, W: Write, F: FnMut(&mut R, &mut W) -> io::Result<bool>>(
 }
 
 // The next case's name, and the line that names it: false where the input has ended.
-fn next_case<R: Read, W: Write>(input: &mut R, out: &mut W) -> io::Result<bool> {
+pub fn next_case<R: Read, W: Write>(input: &mut R, out: &mut W) -> io::Result<bool> {
     let mut name = [0u8; 255];
     let Some(length) = next_field(input, 1, &mut name)? else {
         return Ok(false);

@@ -2,9 +2,6 @@
 ghost use Rattle.std.specs.Prelude.{◌≡◌, ◌++◌, ◌+◌, ◌*◌, ◌≤◌, length};
 ghost use Rattle.lists.specs.Over.{over};
 ghost use Rattle.records.specs.Bytes.{bytes2, bytes4, fields};
-ghost use Rattle.records.specs.Kind.{code_of};
-
-use crate::kind::Kind;
 
 // Two bytes from `at` on.
 pub fn put2(out: &mut [u8], at: usize, v: u16)
@@ -15,13 +12,13 @@ pub fn put2(out: &mut [u8], at: usize, v: u16)
 }
 
 // The length and the kind of a record whose body has `size` bytes.
-pub fn put_head(out: &mut [u8], at: usize, kind: Kind, size: usize)
+pub fn put_head(out: &mut [u8], at: usize, kind: u16, size: usize)
     requires at_in_bounds { at + 6 ≤ length out.old }
     requires size_bound { size ≤ 65535 }
-    ensures { out.new ≡ over out.old at (bytes4 (2 + size) ++ bytes2 (code_of kind)) }
+    ensures { out.new ≡ over out.old at (bytes4 (2 + size) ++ bytes2 kind) }
 {
     put_bytes(out, at, &(2 + size as u32).to_le_bytes());
-    put2(out, at + 4, u16::from(kind));
+    put2(out, at + 4, kind);
 }
 
 // The bytes of `src` as numbers, two bytes each.

@@ -6,7 +6,7 @@ ghost use Rattle.records.specs.Answers.{opening_of};
 use crate::bytes::{number2, number4};
 use crate::refusal::Refusal;
 
-// A record's kind, and the number of bytes up to its end.
+// A record's kind, and the number of bytes up to its end. The kind is a number, since a record of any kind opens.
 #[derive(Clone, Copy, Debug, PartialEq, Eq)]
 pub struct Opened {
     pub kind: u16,

@@ -1,41 +1,25 @@
 // Decoded rules changed in place.
-ghost use Rattle.std.specs.Prelude.{◌≡◌, map, Bool, ◌≤◌, length, take};
-ghost use Rattle.std.specs.Fn.{FnReturnsAt};
+ghost use Rattle.std.specs.Prelude.{◌≡◌, ℕ, map, Bool, ◌≤◌, ◌<◌, length, take};
 ghost use Rattle.lists.specs.Lists.{from, keep};
-ghost use Rattle.automaton.specs.Automaton.{Rule, renamed};
+ghost use Rattle.automaton.specs.Automaton.{renamed};
 ghost use Rattle.automaton.specs.Row.{rule_of, rule_at, rules_of};
-ghost use Rattle.reduction.specs.Inner.{name_in, marked};
+ghost use Rattle.reduction.specs.Inner.{name_in};
 
 use automaton::Row;
 
-// Moves the rules that pass a test to the front, in order; returns how many there are.
-pub fn retain<F: Fn(&Row) -> bool>(rules: &mut [Row], passes: F) -> usize
-    requires { F.IsAlwaysCallable passes }
+// Moves the rules that pass a test to the front, in order; returns how many there are. The test is asked of each rule's number and the rule.
+pub fn retain<F: Fn(usize, &Row) -> bool>(rules: &mut [Row], passes: F) -> usize
+    requires { (i : ℕ) (row : _) → i < length rules.old → F.pre passes i row }
     ensures count { result ≤ length rules.new }
-    ensures result_after { (test : Rule → Bool) → ((row : Row) → (b : Bool) → FnReturnsAt F.Fn passes row b → b ≡ test (rule_of row))
-        → rules_of (take result rules.new) ≡ keep test (rules_of rules.old) }
+    ensures result_after { (test : ℕ → Bool)
+        → ((i : ℕ) (row : _) (b : Bool) → F.post passes i row b
+        → i < length rules.old → rule_at (rules_of rules.old) i ≡ rule_of row.now → b ≡ test i)
+        → rules_of (take result rules.new) ≡ map (rule_at (rules_of rules.old)) (keep test (from 0 (length rules.old))) }
 {
     let mut kept = 0;
+    // By number: the array is read and written at once.
     for i in 0..rules.len() {
-        if passes(&rules[i]) {
-            rules[kept] = rules[i];
-            kept += 1;
-        }
-    }
-    kept
-}
-
-// Moves the marked rules to the front, in order; returns how many there are.
-pub fn compact(rules: &mut [Row], marks: &[bool; 1024]) -> usize
-    requires { length rules.old ≤ 1024 }
-    ensures count { result ≤ length rules.new }
-    ensures value { result ≡ length (keep (marked marks.now) (from 0 (length rules.old))) }
-    ensures result_after { rules_of (take result rules.new)
-        ≡ map (rule_at (rules_of rules.old)) (keep (marked marks.now) (from 0 (length rules.old))) }
-{
-    let mut kept = 0;
-    for (i, mark) in marks[..rules.len()].iter().enumerate() {
-        if *mark {
+        if passes(i, &rules[i]) {
             rules[kept] = rules[i];
             kept += 1;
         }

@@ -11,7 +11,7 @@ ghost use Rattle.stages.specs.Steps.{names_only, trimmed, below, rounds_in, quot
 use crate::blocks::{name_blocks, number_states, rename_set};
 use crate::growth::{Down, Up, grow};
 use crate::marking::{Dominated, Repeated, mark_staying};
-use crate::rows::{compact, rename_rules, retain};
+use crate::rows::{rename_rules, retain};
 use automaton::{Row, Table};
 use indexing::{ByTarget, INDEX, index_rules};
 use refinement::{Relation, simulate};
@@ -48,7 +48,7 @@ fn keep_named<'r>(states: StateSet, finals: StateSet, rules: &'r mut [Row]) -> W
       rules = keep (names_only (states_in 256 states.words)) (rules_of rules.old);
     } }
 {
-    let is_named = |rule: &Row| states.has(rule.target()) && states.has_all(rule.children());
+    let is_named = |_, rule: &Row| states.has(rule.target()) && states.has_all(rule.children());
     let count = retain(rules, is_named);
     Work {
         states,
@@ -91,7 +91,7 @@ fn group<'r>(work: Work<'r>, relation: &Relation) -> Work<'r>
     rename_rules(rules, &names);
     let mut marks = [false; 1024];
     mark_staying::<Repeated>(relation, rules, 256, &mut marks);
-    let count = compact(rules, &marks);
+    let count = retain(rules, |i, _| marks[i]);
     Work {
         states: rename_set(states, &names),
         finals: rename_set(finals, &names),
@@ -110,7 +110,7 @@ fn prune<'r>(work: Work<'r>, relation: &Relation) -> Work<'r>
     } = work;
     let mut marks = [false; 1024];
     mark_staying::<Dominated>(relation, rules, 256, &mut marks);
-    let count = compact(rules, &marks);
+    let count = retain(rules, |i, _| marks[i]);
     Work {
         states,
         finals,

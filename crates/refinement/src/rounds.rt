@@ -100,7 +100,8 @@ fn round(
 {
     let mut lost = StateSet::empty();
     for rule in rules {
-        if changed.has_any(rule.children()) {
+        let touched = changed.has_any(rule.children());
+        if touched {
             let q = rule.target();
             let row = next[usize::from(q)];
             let narrowed = narrow(row, relation, rule, others, index);

@@ -23,7 +23,7 @@ fn digits(v: usize) -> usize
     }
 }
 
-// A space and the digits of v from `at` on; returns where they end.
+// A space and the digits of v from `at` on; returns where they end. `write!` would be no plainer: it may answer an error, and the report cannot fail.
 fn put_number(out: &mut [u8], at: usize, v: usize) -> usize
     requires { (v < 100000) × (at + 6 ≤ length out.old) }
     ensures { Put out.old at (32 ∷ spec.decimal v) result out.new }

@@ -18,7 +18,7 @@ use Rattle.automaton.proofs.Examples.{T}
 use Rattle.trees.specs.Postfix.{rank_on, single, is_tree_record}
 use Rattle.trees.specs.Subtree.{First, nowhere, first_at, first_of, accepted, rejected, pointed}
 use Rattle.trees.specs.Walk.{Waiting, Walk, start, have_in_order, leads_to, sizes_of, joined, is_none, noted, onto, advance, advance_all, closing}
-use Rattle.trees.specs.Inner.{set_at, start_at, stack_in, walk_in, nodes_finding}
+use Rattle.trees.specs.Inner.{set_at, start_at, stack_by, walk_in, nodes_finding}
 use Rattle.trees.specs.declared.entry.Entry.{Entry}
 use Rattle.trees.specs.Holds.{walk_finding}
 
@@ -87,7 +87,7 @@ pub record Walks : Type 0 where
 
 pub walks : Walks
 unfolding start advance advance_all closing nodes_finding walk_finding onto joined leads_to have_in_order sizes_of is_none noted first_of pointed rank_on single is_tree_record
-    walk_in stack_in set_at start_at states_in entry_at member from keep any among opened is_whole end_of body_of number2 number4 numbers encode_record bytes2 bytes4 fields check map_read ◌>>=◌ ◌>>◌
+    walk_in stack_by set_at start_at states_in entry_at member from keep any among opened is_whole end_of body_of number2 number4 numbers encode_record bytes2 bytes4 fields check map_read ◌>>=◌ ◌>>◌
 walks = record {
   after_b = refl;
   after_a = refl;

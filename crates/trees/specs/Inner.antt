@@ -47,13 +47,16 @@ rule_gives rules trees q i = eqb (rule_at rules i).target q && in_order trees (r
 unfoldable pub gathered : List ℕ → List ℕ
 gathered spread = words (λ (i : ℕ). get_or spread (2 * i) 0)
 
--- What the walk holds, in an array, from the stack's height and the end of its topmost tree: tree e, counted from 0 from below, has the states of its
--- set, and as many nodes stand before it as its start says. It ends where the tree above it starts, and the topmost one after all nodes that were
--- walked. What stands in the array from the height on is not held.
-unfoldable pub stack_in : List Entry → ℕ → ℕ → List Waiting
-stack_in stack zero end = []
-stack_in stack (suc e) end =
-    record { states = states_in 256 (set_at stack e); size = end - start_at stack e } ∷ stack_in stack e (start_at stack e)
+-- What the walk holds, by the sets and the starts of its trees, from the stack's height and the end of its topmost tree: tree e, counted from 0 from
+-- below, has the states of its set, and as many nodes stand before it as its start says. It ends where the tree above it starts, and the topmost one
+-- after all nodes that were walked.
+unfoldable pub stack_by : (ℕ → List ℕ) → (ℕ → ℕ) → ℕ → ℕ → List Waiting
+stack_by sets starts zero end = []
+stack_by sets starts (suc e) end = record { states = states_in 256 (sets e); size = end - starts e } ∷ stack_by sets starts e (starts e)
+
+-- The same in an array. What stands there from the height on is not held.
+abbrev pub stack_in : List Entry → ℕ → ℕ → List Waiting
+stack_in stack h end = stack_by (set_at stack) (start_at stack) h end
 
 unfoldable pub walk_in : List Entry → Held → Walk
 walk_in stack held = record { stack = stack_in stack held.height held.nodes; nodes = held.nodes; first = first_of held.first }
@@ -61,11 +64,15 @@ walk_in stack held = record { stack = stack_in stack held.height held.nodes; nod
 unfoldable pub stepped_of : List Entry → Result Held Refusal → Read Walk
 stepped_of stack r = map_read (walk_in stack) (reading_of r)
 
--- So many trees fill the nodes up to an end: the lowest starts at 0, each other one where the one under it ends, and none ends before it starts.
--- Without trees there are no nodes.
-unfoldable pub Consecutive : List Entry → ℕ → ℕ → Type 0
-Consecutive stack zero end = end ≡ 0
-Consecutive stack (suc e) end = (start_at stack e ≤ end) × Consecutive stack e (start_at stack e)
+-- So many trees, by their starts, fill the nodes up to an end: the lowest starts at 0, each other one where the one under it ends, and none ends before
+-- it starts. Without trees there are no nodes.
+unfoldable pub ConsecutiveBy : (ℕ → ℕ) → ℕ → ℕ → Type 0
+ConsecutiveBy starts zero end = end ≡ 0
+ConsecutiveBy starts (suc e) end = (starts e ≤ end) × ConsecutiveBy starts e (starts e)
+
+-- The same of the trees in an array.
+abbrev pub Consecutive : List Entry → ℕ → ℕ → Type 0
+Consecutive stack h end = ConsecutiveBy (start_at stack) h end
 
 -- The same of what a step leaves; a refusal leaves nothing.
 unfoldable pub LeavesConsecutive : List Entry → Result Held Refusal → Type 0

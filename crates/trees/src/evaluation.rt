@@ -35,7 +35,7 @@ pub struct Subtree {
     pub size: usize,
 }
 
-// Of a tree that is not accepted, the subtree that is named.
+// Of a tree that is not accepted, the subtree that is named. An `Option` of a subtree would be no plainer: `None` would say that the tree is accepted.
 #[derive(Clone, Copy, Debug, PartialEq, Eq)]
 pub enum Answer {
     Accepted,
@@ -194,6 +194,7 @@ impl<'a> Evaluator<'a> {
         ensures { Has result.words
             (λ (q : ℕ). any (rule_gives self.now.rules trees.now q) numbers.now) }
     {
+        // For the proof: what holds of the value's fields.
         let _ = &self.rules;
         if first.is_some() && has_empty(trees) {
             return StateSet::empty();

@@ -20,9 +20,9 @@ use Rattle.automaton.specs.Automaton.{Rule, Automaton}
 use Rattle.automaton.specs.declared.row.Row.{Row}
 use Rattle.automaton.specs.Row.{rule_of, rules_of}
 use Rattle.automaton.specs.Table.{judge_record, rule_in, judge_rule, judge_rules, judge}
-use Rattle.automaton.specs.Inner.{passing, Parts, judge_head, RuleBody, RowsRoom}
+use Rattle.automaton.specs.Inner.{Parts, judge_head, RuleBody, RowsRoom}
 use Rattle.automaton.proofs.Checked.{record_within, rule_checked, no_rules_found, rules_count}
-use Rattle.automaton.proofs.table.Judging.{passing_map, rule_long, rules_refused, rules_next, head_found, rest_found}
+use Rattle.automaton.proofs.table.Judging.{rule_long, rules_refused, rules_next, head_found, rest_found}
 
 -- A rule that was judged, in one row more.
 
@@ -98,9 +98,6 @@ module _ (n : ℕ) (ranks : List ℕ) (k : ℕ) (t : List ℕ) (rows₀ : List R
     module _ (last : k ≤ i) where
       none_left : judge_rules n ranks k t ≡ judge_rules n ranks 0 rest >>= (λ (us : List Rule). found (rules_of (take i rows) ++ us))
       none_left = let z : k - i ≡ 0 = omega arith in rw z at r.read
-
-      pub end_reached : passing (judge_rules n ranks k t) ≡ passing (judge_rules n ranks 0 rest)
-      end_reached = ap passing none_left ∙ passing_map _ _
 
       module _ (most : i ≤ k) (us : List Rule) (h : judge_rules n ranks k t ≡ found us) where
         rules_reached : rules_of (take k rows) ≡ us

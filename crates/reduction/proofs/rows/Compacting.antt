@@ -1,15 +1,14 @@
--- Rules written in front over others: the first rows hold the new rules, and the rows that are still to be read are the old ones. For `retain`,
--- `compact` and `rename_rules`.
+-- Rules written in front over others: the first rows hold the new rules, and the rows that are still to be read are the old ones. For `retain`
+-- and `rename_rules`.
 use Prim.Native.Nat.{ℕ, ◌+◌, ◌≤◌, ◌<◌}
 use native.Mathlib.Numerals.{add-one}
 use native.Mathlib.Omega.{arith}
 use mathlib.Core.Path.{◌≡◌, refl, sym, ap, ◌∙◌}
 use mathlib.Core.List.{List, [], ◌∷◌, ◌++◌, map, map-append, append-nil}
 use mathlib.Core.Bool.{Bool, true, false}
-use lib.ListN.{length, take, get_or, set, length-map}
-use lib.Seq.{get_or-set_other, length-take-le, take-suc-set}
+use lib.ListN.{length, take, get_or, set}
+use lib.Seq.{get_or-set_other, take-suc-set}
 use Rattle.lists.specs.Lists.{from, keep}
-use Rattle.lists.proofs.Keeping.{keep_append}
 use Rattle.lists.proofs.Overwriting.{keep_step, single_kept, single_dropped}
 use Rattle.automaton.specs.Automaton.{Rule, renamed}
 use Rattle.automaton.specs.Row.{rule_of, rule_at, rules_of}
@@ -42,57 +41,27 @@ module _ {old : List Row} {us : List Rule} {i n : ℕ} {rows : List Row} (w : Ov
   row_there : (row : Row) → row ≡ get_or rows i row → row ≡ get_or old i row
   row_there row is = is ∙ w.rest i row (omega arith)
 
--- What a test says of row i, where it was asked of the row that was read there.
-pub tested : (test : Rule → Bool) (rows : List Row) (i : ℕ) (row : Row) {t : Bool} → i < length rows → row ≡ get_or rows i row
-    → t ≡ test (rule_of (get_or rows i row)) → test (rule_at (rules_of rows) i) ≡ t
-tested test rows i row h is e = ap test (rule_is rows i row h is ∙ ap rule_of is) ∙ sym e
-
--- The ones of the first i rules that pass a test.
-module _ (test : Rule → Bool) (old : List Row) where
-  abbrev pub Retained : ℕ → ℕ → List Row → Type 0
-  Retained i n rows = Overwritten old (keep test (rules_of (take i old))) i n rows
-
-  pub retained_none : Retained 0 0 old
-  unfolding keep
-  retained_none = none_written old
-
-  module _ {i n : ℕ} {rows : List Row} (w : Retained i n rows) (low : i < length old) (room : i < length rows) (row : Row)
-      (is : row ≡ get_or rows i row) where
-    pub retained_skip : test (rule_at (rules_of rows) i) ≡ false → Retained (i + 1) n rows
-    unfolding keep
-    retained_skip e =
-        let out : test (rule_of row) ≡ false = ap test (sym (rule_is rows i row room is)) ∙ e in
-        rw (rules_more old i row low (row_there w row is), keep_append, out, append-nil) (row_passed w)
-
-    pub retained_keep : test (rule_at (rules_of rows) i) ≡ true → Retained (i + 1) (n + 1) (set rows n row)
-    unfolding keep
-    retained_keep e =
-        let few = w.few in
-        let held : test (rule_of row) ≡ true = ap test (sym (rule_is rows i row room is)) ∙ e in
-        rw (rules_more old i row low (row_there w row is), keep_append, held) (rule_written w (omega arith) row)
-
 -- The ones of the first i rules whose number passes a test.
 module _ (test : ℕ → Bool) (old : List Row) where
-  abbrev pub Compacted : ℕ → ℕ → List Row → Type 0
-  Compacted i n rows = Overwritten old (map (rule_at (rules_of old)) (keep test (from 0 i))) i n rows
+  abbrev pub Retained : ℕ → ℕ → List Row → Type 0
+  Retained i n rows = Overwritten old (map (rule_at (rules_of old)) (keep test (from 0 i))) i n rows
 
-  pub compacted_none : Compacted 0 0 old
+  pub retained_none : Retained 0 0 old
   unfolding keep from
-  compacted_none = none_written old
+  retained_none = none_written old
 
-  module _ {i n : ℕ} {rows : List Row} (w : Compacted i n rows) where
-    pub compacted_count : n ≤ length rows → n ≡ length (keep test (from 0 i))
-    compacted_count room =
-        sym (length-take-le n rows room) ∙ sym (length-map (take n rows) rule_of) ∙ ap length w.rules
-        ∙ length-map (keep test (from 0 i)) (rule_at (rules_of old))
+  module _ {i n : ℕ} {rows : List Row} (w : Retained i n rows) where
+    pub retained_skip : test i ≡ false → Retained (i + 1) n rows
+    retained_skip e = rw (keep_step, single_dropped test i e, append-nil) (row_passed w)
 
-    pub compacted_skip : test i ≡ false → Compacted (i + 1) n rows
-    compacted_skip e = rw (keep_step, single_dropped test i e, append-nil) (row_passed w)
+    module _ (low : i < length old) (room : i < length rows) (row : Row) (is : row ≡ get_or rows i row) where
+      pub rule_there : rule_at (rules_of old) i ≡ rule_of row
+      rule_there = rule_is old i row low (row_there w row is)
 
-    pub compacted_keep : test i ≡ true → i < length old → n < length rows → (row : Row) → row ≡ get_or rows i row
-        → Compacted (i + 1) (n + 1) (set rows n row)
-    compacted_keep e low room row is =
-        rw (keep_step, single_kept test i e, map-append, rule_is old i row low (row_there w row is)) (rule_written w room row)
+      pub retained_keep : test i ≡ true → Retained (i + 1) (n + 1) (set rows n row)
+      retained_keep e =
+          let few = w.few in
+          rw (keep_step, single_kept test i e, map-append, rule_there) (rule_written w (omega arith) row)
 
 -- The first i rules with new names.
 module _ (name : ℕ → ℕ) (old : List Row) where

@@ -270,7 +270,7 @@ pub undominated_rows : (R : Relation) (rows : List Row) (marks : List Bool)
 unfolding stays dominates dominated
 undominated_rows R rows marks h =
     let rules = rules_of rows in
-    kept_rows rows marks (λ (u : Rule). not (dominated R rules u))
+    kept_rows rows (marked marks) (λ (u : Rule). not (dominated R rules u))
     (λ i l. h i l ∙ ap not (sym (any_map (dominated_by R (rule_at rules i)) (rule_at rules) (from 0 (length rules)))
     ∙ ap (any (dominated_by R (rule_at rules i))) (rules_numbered rules)))
 

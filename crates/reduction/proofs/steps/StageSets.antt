@@ -26,7 +26,6 @@ use Rattle.automaton.specs.declared.row.Row.{Row}
 use Rattle.indexing.proofs.Indexing.{rules_numbered}
 use Rattle.stages.specs.Steps.{Stage, names_only}
 use Rattle.stages.specs.Inner.{Sound}
-use Rattle.reduction.specs.Inner.{marked}
 
 -- The states of a set.
 
@@ -109,14 +108,14 @@ named_sound states finals rules inside =
       children = λ u m q n. among_out xs q (all_out (among xs) (named u m).1 q n);
     }
 
--- The marked rules, where a rule's mark depends on the rule alone.
-pub kept_rows : (rows : List Row) (marks : List Bool) (test : Rule → Bool)
-    → ((i : ℕ) → i < length rows → marked marks i ≡ test (rule_at (rules_of rows) i))
-    → map (rule_at (rules_of rows)) (keep (marked marks) (from 0 (length rows))) ≡ keep test (rules_of rows)
-kept_rows rows marks test h =
+-- The rules whose number passes a test that depends on the rule alone.
+pub kept_rows : (rows : List Row) (by_number : ℕ → Bool) (test : Rule → Bool)
+    → ((i : ℕ) → i < length rows → by_number i ≡ test (rule_at (rules_of rows) i))
+    → map (rule_at (rules_of rows)) (keep by_number (from 0 (length rows))) ≡ keep test (rules_of rows)
+kept_rows rows by_number test h =
     let rules = rules_of rows in
     let k = length rows in
-    ap (map (rule_at rules)) (keep_agree (marked marks) (λ (i : ℕ). test (rule_at rules i)) (from 0 k)
+    ap (map (rule_at rules)) (keep_agree by_number (λ (i : ℕ). test (rule_at rules i)) (from 0 k)
     (λ i m. let b = member_from k 0 i m in h i (omega arith)))
     ∙ sym (keep_map test (rule_at rules) (from 0 k))
     ∙ ap (keep test) (ap (λ (n : ℕ). map (rule_at rules) (from 0 n)) (sym (length-map rows rule_of)) ∙ rules_numbered rules)

@@ -32,7 +32,7 @@ use Rattle.automaton.specs.Row.{rule_at}
 use Rattle.trees.specs.Postfix.{single, is_tree_record, judge_tree}
 use Rattle.trees.specs.Subtree.{Finding, first_of, accepted, rejected, pointed}
 use Rattle.trees.specs.Walk.{Waiting, start, advance_all, closing}
-use Rattle.trees.specs.Inner.{set_at, stack_in, walk_in, stepped_of, Holdable, nodes_finding, tree_finding}
+use Rattle.trees.specs.Inner.{set_at, stack_by, stack_in, walk_in, stepped_of, Holdable, nodes_finding, tree_finding}
 use Rattle.trees.specs.declared.entry.Entry.{Entry}
 use Rattle.trees.specs.declared.evaluation.Held.{Held}
 use Rattle.trees.specs.declared.evaluation.Subtree.{Subtree}
@@ -64,7 +64,7 @@ met_final stack t finals meet some is are =
 -- One tree on the stack, or another number of trees.
 module _ (A : Automaton) (stack : List Entry) (held : Held) where
   pub not_one_refused : (held.height ≡ 1 → ⊥) → refused 10 ≡ closing A (walk_in stack held)
-  unfolding closing walk_in single stack_in ◌>>=◌
+  unfolding closing walk_in single stack_by ◌>>=◌
   not_one_refused other = go held.height other
     where
       go : (h : ℕ) → (h ≡ 1 → ⊥) → refused 10 ≡ (single (stack_in stack h held.nodes)
@@ -77,7 +77,7 @@ module _ (A : Automaton) (stack : List Entry) (held : Held) where
       → held.height ≡ 1
       → closing A (walk_in stack held)
       ≡ found (cond (any (member (set_at stack 0)) (states_in 256 set)) accepted (pointed (first_of held.first) held.nodes))
-  unfolding closing walk_in single stack_in states_in ◌>>=◌
+  unfolding closing walk_in single stack_by states_in ◌>>=◌
   one_answered set few finals holdable one =
       let states = all_first (rw one at holdable.states) in
       let low : (q : ℕ) → q < 256 → member (set_at stack 0) q ≡ true → q < A.states =

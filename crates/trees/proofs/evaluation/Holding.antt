@@ -5,7 +5,7 @@ use native.Mathlib.Decide.{dec_lt}
 use native.Mathlib.Omega.{arith}
 use mathlib.Core.Path.{◌≡◌, refl, sym, ap, ◌∙◌}
 use mathlib.Core.List.{List, [], ◌∷◌, ◌++◌, map}
-use lib.ListN.{length, length-append}
+use lib.ListN.{length, get_or, length-append}
 use Rattle.std.specs.Prelude.{Option, Some, None}
 use Rattle.lists.specs.Lists.{All, none, also, among}
 use Rattle.lists.proofs.Elements.{all_map}
@@ -14,7 +14,7 @@ use Rattle.sets.specs.Inner.{set_of, states_in}
 use Rattle.sets.proofs.StateSets.{Bounded, same_members, states_of_set, length_set_of, bounded_set_of}
 use Rattle.automaton.specs.Automaton.{Automaton}
 use Rattle.trees.specs.Walk.{Waiting, Walk, sizes_of}
-use Rattle.trees.specs.Inner.{StackRoom, set_at, start_at, stack_in, walk_in, Consecutive}
+use Rattle.trees.specs.Inner.{StackRoom, set_at, start_at, stack_by, stack_in, walk_in, Consecutive}
 use Rattle.trees.specs.Holds.{Following, FirstBelow, Holding, SameUpTo, StatesBelow, HoldableWalk}
 use Rattle.trees.specs.Subtree.{First, nowhere, first_at, first_of}
 use Rattle.trees.specs.declared.entry.Entry.{Entry}
@@ -22,7 +22,7 @@ use Rattle.trees.specs.declared.evaluation.Subtree.{Subtree}
 use Rattle.trees.specs.declared.evaluation.Held.{Held}
 use Rattle.trees.proofs.Walking.{among_kept, kept_below, Invariant}
 use Rattle.trees.proofs.evaluation.Entries.{set_length, set_bounded, set_before, start_before, set_last, start_last}
-use Rattle.trees.proofs.evaluation.Stacks.{length_stack, stack_up_to, consecutive_same}
+use Rattle.trees.proofs.evaluation.Stacks.{length_stack, stack_up_to, starts_of, last_start, other_starts, size_of, has_consecutive, has_sizes}
 
 following_same : (stack stack' : List Entry) (h end : ℕ) → ((e : ℕ) → e < h → start_at stack' e ≡ start_at stack e) → Following stack h end
     → Following stack' h end
@@ -34,12 +34,12 @@ following_same stack stack' (suc h) end same c =
 -- Walks that fit: those from the start on, and those that are held.
 module _ (stack : List Entry) where
   stack_below_256 : (h end : ℕ) → All (StatesBelow 256) (stack_in stack h end)
-  unfolding stack_in states_in
+  unfolding stack_by states_in
   stack_below_256 zero end = none
   stack_below_256 (suc h) end = also (kept_below (member (set_at stack h)) 256) (stack_below_256 h (start_at stack h))
 
   stack_sizes_low : (h end : ℕ) → Following stack h end → sizes_of (stack_in stack h end) ≤ end
-  unfolding stack_in sizes_of Following
+  unfolding stack_by sizes_of Following
   stack_sizes_low zero end c = omega arith
   stack_sizes_low (suc h) end (low, below) = omega (arith, stack_sizes_low h (start_at stack h) below)
 
@@ -111,13 +111,13 @@ module _ (end : ℕ) (few : end < 65536) (t : Waiting) (ts : List Waiting) where
   abbrev under : List Entry
   under = entries_to (end - t.size) (lower end t.size few) ts
 
-  last_set : set_at (entries_to end few (t ∷ ts)) (length ts) ≡ set_of t.states
+  entry_set : set_at (entries_to end few (t ∷ ts)) (length ts) ≡ set_of t.states
   unfolding entries_to
-  last_set = rw (← length_entries (end - t.size) (lower end t.size few) ts) (set_last under _)
+  entry_set = rw (← length_entries (end - t.size) (lower end t.size few) ts) (set_last under _)
 
-  last_start : start_at (entries_to end few (t ∷ ts)) (length ts) ≡ end - t.size
+  entry_start : start_at (entries_to end few (t ∷ ts)) (length ts) ≡ end - t.size
   unfolding entries_to
-  last_start = rw (← length_entries (end - t.size) (lower end t.size few) ts) (start_last under _)
+  entry_start = rw (← length_entries (end - t.size) (lower end t.size few) ts) (start_last under _)
 
   others : SameUpTo (length ts) (entries_to end few (t ∷ ts)) under
   unfolding entries_to
@@ -129,7 +129,7 @@ entries_follow : (end : ℕ) (few : end < 65536) (ts : List Waiting) → sizes_o
 unfolding Following sizes_of
 entries_follow end few [] fits = tt
 entries_follow end few (t ∷ ts) fits =
-    rw (last_start end few t ts) (
+    rw (entry_start end few t ts) (
       omega arith,
       following_same _ (entries_to end few (t ∷ ts)) (length ts) (end - t.size) (λ e l. (others end few t ts e l).1)
           (entries_follow (end - t.size) (lower end t.size few) ts (omega arith)),
@@ -137,47 +137,37 @@ entries_follow end few (t ∷ ts) fits =
 
 stack_held : (end : ℕ) (few : end < 65536) (ts : List Waiting) → sizes_of ts ≤ end → All (StatesBelow 256) ts
     → stack_in (entries_to end few ts) (length ts) end ≡ ts
-unfolding stack_in sizes_of
+unfolding stack_by sizes_of
 stack_held end few [] fits none = refl
 stack_held end few (t ∷ ts) fits (also (rise, low) os) =
     let states : states_in 256 (set_of t.states) ≡ t.states = unfold states_in in states_of_set t.states 256 (omega arith) low rise in
     let size : end - (end - t.size) ≡ t.size = omega arith in
     rw (
-      last_set end few t ts,
-      last_start end few t ts,
+      entry_set end few t ts,
+      entry_start end few t ts,
       states,
       size,
       stack_up_to (entries_to end few (t ∷ ts)) (entries_to (end - t.size) (lower end t.size few) ts) (length ts) (end - t.size) (others end few t ts),
       stack_held (end - t.size) (lower end t.size few) ts (omega arith) os,
     )
 
--- Every stack of trees of fewer nodes has starts: each tree starts after those under it. So the equation of a step is about every stack whose sizes add up
--- to the number of nodes.
-pub starts_consecutive : (end : ℕ) (few : end < 65536) (ts : List Waiting) → sizes_of ts ≡ end → Consecutive (entries_to end few ts) (length ts) end
-unfolding Consecutive sizes_of
-starts_consecutive end few [] all = sym all
-starts_consecutive end few (t ∷ ts) all =
-    rw (last_start end few t ts) (
-      omega arith,
-      consecutive_same _ (entries_to end few (t ∷ ts)) (length ts) (end - t.size) (λ e l. (others end few t ts e l).1)
-          (starts_consecutive (end - t.size) (lower end t.size few) ts (omega arith)),
-    )
+-- The starts in the array are those of the trees, where their sizes add up to the end: fewer than 65,536 nodes, which an entry's start can count.
+entries_start : (end : ℕ) (few : end < 65536) (ts : List Waiting) → sizes_of ts ≡ end
+    → (e : ℕ) → e < length ts → start_at (entries_to end few ts) e ≡ get_or (starts_of ts) e 0
+unfolding sizes_of
+entries_start end few [] all e l = absurd (omega arith)
+entries_start end few (t ∷ ts) all e l =
+    elim (dec_lt e (length ts)) [
+      | yes m ↦ (others end few t ts e m).1 ∙ entries_start (end - t.size) (lower end t.size few) ts (omega arith) e m ∙ sym (other_starts t ts e m)
+      | no m ↦ let is : e ≡ length ts = omega arith in rw (is, entry_start end few t ts, last_start t ts) (omega arith)
+    ]
 
-abbrev size_of : Waiting → ℕ
-size_of t = t.size
+pub entries_consecutive : (end : ℕ) (few : end < 65536) (ts : List Waiting) → sizes_of ts ≡ end → Consecutive (entries_to end few ts) (length ts) end
+entries_consecutive end few ts all = rw all at (has_consecutive (entries_to end few ts) ts (entries_start end few ts all))
 
-pub starts_sizes : (end : ℕ) (few : end < 65536) (ts : List Waiting) → sizes_of ts ≡ end
+pub entries_sizes : (end : ℕ) (few : end < 65536) (ts : List Waiting) → sizes_of ts ≡ end
     → map size_of (stack_in (entries_to end few ts) (length ts) end) ≡ map size_of ts
-unfolding stack_in sizes_of
-starts_sizes end few [] all = refl
-starts_sizes end few (t ∷ ts) all =
-    let size : end - (end - t.size) ≡ t.size = omega arith in
-    rw (
-      last_start end few t ts,
-      size,
-      stack_up_to (entries_to end few (t ∷ ts)) (entries_to (end - t.size) (lower end t.size few) ts) (length ts) (end - t.size) (others end few t ts),
-      starts_sizes (end - t.size) (lower end t.size few) ts (omega arith),
-    )
+entries_sizes end few ts all = rw all at (has_sizes (entries_to end few ts) ts (entries_start end few ts all))
 
 -- Room for one tree more is that for one of no states and no nodes.
 bare : Entry
@@ -218,7 +208,7 @@ module _ (stack stack' : List Entry) where
   stack_alone : (h end : ℕ) → Following stack h end → Following stack' h end
       → stack_in stack h end ≡ stack_in stack' h end
       → (e : ℕ) → e < h → (states_in 256 (set_at stack e) ≡ states_in 256 (set_at stack' e)) × (start_at stack e ≡ start_at stack' e)
-  unfolding stack_in Following
+  unfolding stack_by Following
   stack_alone zero end c c' same e l = absurd (omega arith)
   stack_alone (suc h) end (low, below) (low', below') same e l =
       let tops : ◌≡◌ {A = Waiting} (record { states = states_in 256 (set_at stack h); size = end - start_at stack h })

@@ -19,7 +19,7 @@ use Rattle.automaton.specs.Automaton.{Automaton}
 use Rattle.indexing.specs.Index.{numbers_of}
 use Rattle.trees.specs.Subtree.{first_of}
 use Rattle.trees.specs.Walk.{Waiting, Walk, start, sizes_of, noted, onto, joined, advance, advance_all}
-use Rattle.trees.specs.Inner.{Evaluable, rule_gives, stack_in, walk_in, stepped_of, Consecutive, LeavesConsecutive, start_of, Holdable}
+use Rattle.trees.specs.Inner.{Evaluable, rule_gives, stack_by, stack_in, walk_in, stepped_of, Consecutive, LeavesConsecutive, start_of, Holdable}
 use Rattle.trees.specs.declared.entry.Entry.{Entry}
 use Rattle.trees.specs.declared.evaluation.Held.{Held}
 use Rattle.trees.specs.declared.evaluation.Subtree.{Subtree}
@@ -146,7 +146,7 @@ pub record Walked (A : Automaton) (b rest : List ℕ) (stack : List Entry) (held
 
 module _ (A : Automaton) (b : List ℕ) where
   pub walk_begins : (stack : List Entry) → Walked A b b stack (record { height = 0; nodes = 0; first = None })
-  unfolding walk_in stack_in start first_of
+  unfolding walk_in stack_by start first_of
   walk_begins stack = record { holdable = start_holdable A; left = refl }
 
   module _ {rest : List ℕ} {stack : List Entry} {held : Held} (w : Walked A b rest stack held) where

@@ -1,14 +1,14 @@
 -- The stack of the walk in an array: the trees that a node takes off it, the states that the rules of the node's symbol give from their sets, and the
 -- stack after the node's own tree is put. From Entries and NodeStates; for `step`, and for Nodes and Holding.
 use Prim.Native.Nat.{ℕ, zero, suc, ◌+◌, ◌-◌, ◌≤◌, ◌<◌}
-use native.Mathlib.Nat.{add-zero, zero-add, suc-add, add_comm}
+use native.Mathlib.Nat.{add-zero, zero-add, suc-add, add_comm, add-sub_cancel}
 use native.Mathlib.Numerals.{add-one}
 use native.Mathlib.Omega.{arith}
 use mathlib.Core.Path.{◌≡◌, refl, sym, ap, ◌∙◌}
 use mathlib.Core.List.{List, [], ◌∷◌, ◌++◌, map, map-append, reverse, reverse_aux, reverse-cons, Memᴰ}
 use mathlib.Core.Bool.{Bool, true, false, not, ◌&&◌, and-false}
-use lib.ListN.{length, take, drop, get_or, set}
-use lib.Seq.{drop-drop}
+use lib.ListN.{length, take, drop, get_or, set, length-append, get_or-append}
+use lib.Seq.{drop-drop, get_or_at}
 use lib.Dec.{eqb, ltb}
 use borrow.Author.Tests.{eqb-true, lt-ltb}
 use Rattle.lists.specs.Lists.{All, also, from, any, among}
@@ -27,7 +27,7 @@ use Rattle.automaton.proofs.Rows.{rule_in_lem, rules_at}
 use Rattle.indexing.specs.Index.{keyed, numbers_of}
 use Rattle.indexing.proofs.Indexing.{keyed_members}
 use Rattle.trees.specs.Walk.{Waiting, have_in_order, leads_to, sizes_of, joined, is_none}
-use Rattle.trees.specs.Inner.{Evaluable, set_at, start_at, in_order, rule_gives, stack_in, Consecutive, start_of}
+use Rattle.trees.specs.Inner.{Evaluable, set_at, start_at, in_order, rule_gives, stack_by, stack_in, ConsecutiveBy, Consecutive, start_of}
 use Rattle.trees.specs.Holds.{SameUpTo}
 use Rattle.trees.specs.declared.entry.Entry.{Entry}
 use Rattle.trees.proofs.Walking.{among_kept, is_none_kept}
@@ -56,14 +56,14 @@ module _ (stack : List Entry) where
   start_first (suc r) e = refl
 
   pub start_low : (r e end : ℕ) → Consecutive stack (r + e) end → start_on stack e r end ≤ end
-  unfolding Consecutive start_on
+  unfolding ConsecutiveBy start_on
   start_low zero e end c = omega arith
   start_low (suc r) e end c =
       let (low, below) = rw suc-add at c in
       omega (arith, start_low r e (start_at stack (r + e)) below, start_first r e)
 
   pub consecutive_below : (r e end : ℕ) → Consecutive stack (r + e) end → Consecutive stack e (start_on stack e r end)
-  unfolding Consecutive start_on
+  unfolding ConsecutiveBy start_on
   consecutive_below zero e end c = rw zero-add at c
   consecutive_below (suc r) e end c =
       let (low, below) = rw suc-add at c in
@@ -123,20 +123,20 @@ module _ (stack : List Entry) where
       )
 
   pub length_stack : (h end : ℕ) → length (stack_in stack h end) ≡ h
-  unfolding stack_in
+  unfolding stack_by
   length_stack zero end = refl
   length_stack (suc h) end = ap suc (length_stack h (start_at stack h))
 
   -- Of a stack whose r topmost trees are taken off: what is left, their sets from below, and what their sizes add up to.
   pub stack_below : (r e end : ℕ) → drop r (stack_in stack (r + e) end) ≡ stack_in stack e (start_on stack e r end)
-  unfolding stack_in start_on
+  unfolding stack_by start_on
   stack_below zero e end = rw zero-add
   stack_below (suc r) e end =
       rw suc-add (stack_below r e (start_at stack (r + e)) ∙ ap (stack_in stack e) (start_first stack r e))
 
   pub stack_states : (r e end : ℕ)
       → map states_of (reverse (take r (stack_in stack (r + e) end))) ≡ map states_at (from e r)
-  unfolding stack_in from
+  unfolding stack_by from
   stack_states zero e end = refl
   stack_states (suc r) e end =
       let below = take r (stack_in stack (r + e) (start_at stack (r + e))) in
@@ -148,7 +148,7 @@ module _ (stack : List Entry) where
 
   sizes_taken : (r e end : ℕ) → Consecutive stack (r + e) end
       → sizes_of (take r (stack_in stack (r + e) end)) + start_on stack e r end ≡ end
-  unfolding sizes_of stack_in Consecutive start_on
+  unfolding sizes_of stack_by ConsecutiveBy start_on
   sizes_taken zero e end c = zero-add end
   sizes_taken (suc r) e end c =
       let (low, below) = rw suc-add at c in
@@ -239,29 +239,33 @@ module _ {A : Automaton} {index : List ℕ} (v : Evaluable A index) where
           rw (states, is)
 
 -- Stacks that are the same below the height hold the same: what stands in them from there on does not matter.
-module _ (stack stack' : List Entry) where
-  pub consecutive_same : (h end : ℕ) → ((e : ℕ) → e < h → start_at stack' e ≡ start_at stack e) → Consecutive stack h end → Consecutive stack' h end
-  unfolding Consecutive
+module _ (starts starts' : ℕ → ℕ) where
+  consecutive_same : (h end : ℕ) → ((e : ℕ) → e < h → starts' e ≡ starts e) → ConsecutiveBy starts h end → ConsecutiveBy starts' h end
+  unfolding ConsecutiveBy
   consecutive_same zero end same c = c
   consecutive_same (suc h) end same c =
-      rw (same h (omega arith)) (c.0, consecutive_same h (start_at stack h) (λ e l. same e (omega arith)) c.1)
+      rw (same h (omega arith)) (c.0, consecutive_same h (starts h) (λ e l. same e (omega arith)) c.1)
 
-  pub stack_up_to : (h end : ℕ) → SameUpTo h stack stack' → stack_in stack h end ≡ stack_in stack' h end
-  unfolding stack_in
-  stack_up_to zero end same = refl
-  stack_up_to (suc h) end same =
-      rw ((same h (omega arith)).0, (same h (omega arith)).1, stack_up_to h (start_at stack' h) (λ e l. same e (omega arith)))
+  stack_same : (sets sets' : ℕ → List ℕ) (h end : ℕ) → ((e : ℕ) → e < h → (sets e ≡ sets' e) × (starts e ≡ starts' e))
+      → stack_by sets starts h end ≡ stack_by sets' starts' h end
+  unfolding stack_by
+  stack_same sets sets' zero end same = refl
+  stack_same sets sets' (suc h) end same =
+      rw ((same h (omega arith)).0, (same h (omega arith)).1, stack_same sets sets' h (starts' h) (λ e l. same e (omega arith)))
+
+pub stack_up_to : (stack stack' : List Entry) (h end : ℕ) → SameUpTo h stack stack' → stack_in stack h end ≡ stack_in stack' h end
+stack_up_to stack stack' h end same = stack_same (start_at stack) (start_at stack') (set_at stack) (set_at stack') h end same
 
 -- A tree put at place e.
 module _ (stack : List Entry) (e : ℕ) (t : Entry) (place : e < length stack) where
   pub put_consecutive : (end : ℕ) → t.start ≤ end → Consecutive stack e t.start → Consecutive (set stack e t) (e + 1) end
-  unfolding Consecutive
+  unfolding ConsecutiveBy
   put_consecutive end l c =
-      rw (add-one, start_put stack e t place) (l, consecutive_same stack (set stack e t) e t.start (start_below stack e t) c)
+      rw (add-one, start_put stack e t place) (l, consecutive_same (start_at stack) (start_at (set stack e t)) e t.start (start_below stack e t) c)
 
   pub put_stack : (end : ℕ)
       → stack_in (set stack e t) (e + 1) end ≡ record { states = states_in 256 t.states.words; size = end - t.start } ∷ stack_in stack e t.start
-  unfolding stack_in
+  unfolding stack_by
   put_stack end =
       rw (
         add-one,
@@ -269,3 +273,57 @@ module _ (stack : List Entry) (e : ℕ) (t : Entry) (place : e < length stack) w
         start_put stack e t place,
         stack_up_to (set stack e t) stack e t.start (λ i l. (set_below stack e t i l, start_below stack e t i l)),
       )
+
+-- Every stack of trees has starts: each tree starts after those under it. So the equation of a step is about every stack whose sizes add up to the
+-- number of nodes.
+unfoldable pub starts_of : List Waiting → List ℕ
+starts_of [] = []
+starts_of (w ∷ ws) = starts_of ws ++ (sizes_of ws ∷ [])
+
+length_starts : (ws : List Waiting) → length (starts_of ws) ≡ length ws
+unfolding starts_of
+length_starts [] = refl
+length_starts (w ∷ ws) = omega (arith, length-append (starts_of ws) (sizes_of ws ∷ []), length_starts ws)
+
+pub last_start : (w : Waiting) (ws : List Waiting) → get_or (starts_of (w ∷ ws)) (length ws) 0 ≡ sizes_of ws
+unfolding starts_of
+last_start w ws = get_or_at (starts_of ws) (sizes_of ws) [] 0 (length ws) (length_starts ws)
+
+pub other_starts : (w : Waiting) (ws : List Waiting) (e : ℕ) → e < length ws → get_or (starts_of (w ∷ ws)) e 0 ≡ get_or (starts_of ws) e 0
+unfolding starts_of
+other_starts w ws e l = get_or-append (starts_of ws) (sizes_of ws ∷ []) 0 e (omega (arith, length_starts ws))
+
+abbrev starts_at : List Waiting → ℕ → ℕ
+starts_at ws e = get_or (starts_of ws) e 0
+
+pub starts_consecutive : (ws : List Waiting) → ConsecutiveBy (λ (e : ℕ). get_or (starts_of ws) e 0) (length ws) (sizes_of ws)
+unfolding ConsecutiveBy sizes_of
+starts_consecutive [] = refl
+starts_consecutive (w ∷ ws) =
+    rw (last_start w ws)
+    (omega arith, consecutive_same (starts_at ws) (starts_at (w ∷ ws)) (length ws) (sizes_of ws) (other_starts w ws) (starts_consecutive ws))
+
+abbrev pub size_of : Waiting → ℕ
+size_of w = w.size
+
+pub starts_sizes : (sets : ℕ → List ℕ) (ws : List Waiting)
+    → map size_of (stack_by sets (λ (e : ℕ). get_or (starts_of ws) e 0) (length ws) (sizes_of ws)) ≡ map size_of ws
+unfolding stack_by sizes_of
+starts_sizes sets [] = refl
+starts_sizes sets (w ∷ ws) =
+    rw (
+      last_start w ws,
+      add-sub_cancel,
+      stack_same (starts_at (w ∷ ws)) (starts_at ws) sets sets (length ws) (sizes_of ws) (λ e l. (refl, other_starts w ws e l)),
+      starts_sizes sets ws,
+    )
+
+-- The same of an array with these starts.
+module _ (stack : List Entry) (ws : List Waiting) (are : (e : ℕ) → e < length ws → start_at stack e ≡ get_or (starts_of ws) e 0) where
+  pub has_consecutive : Consecutive stack (length ws) (sizes_of ws)
+  has_consecutive = consecutive_same (starts_at ws) (start_at stack) (length ws) (sizes_of ws) are (starts_consecutive ws)
+
+  pub has_sizes : map size_of (stack_in stack (length ws) (sizes_of ws)) ≡ map size_of ws
+  has_sizes =
+      rw (stack_same (start_at stack) (starts_at ws) (set_at stack) (set_at stack) (length ws) (sizes_of ws) (λ e l. (refl, are e l)))
+      (starts_sizes (set_at stack) ws)

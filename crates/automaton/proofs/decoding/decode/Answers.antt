@@ -18,21 +18,17 @@ returns-in_err-head c =
     let p = err_from_is_err_and c.from_residual.result c.from_residual.ensures.1 in
     rw (p.1, p.2) (sym (head_refused c.args.t.now (sym c.in_err-head.ensures)))
 
-pub decode_rules-requires : goal.decode_rules-requires
+pub read_rules-requires : goal.read_rules-requires
 unfolding reading_of parts_of map_read
-decode_rules-requires c =
+read_rules-requires c =
     let head = head_found c.args.t.now (parts_of c.in_ok-head.head) (sym c.in_ok-head.ensures) in
-    record {
-      n_bound = (head.states, head.count);
-      ranks_len_bound = (omega (arith, head.ranks.count, head.symbols), head.ranks.small);
-      rows_room = room_behind _ _ _ head.behind c.requires;
-    }
+    record { n_bound = (head.states, head.count); ranks_len_bound = (omega (arith, head.ranks.count, head.symbols), head.ranks.small) }
 
-pub returns-in_err-decode_rules : goal.returns-in_err-decode_rules
+pub returns-in_err-read_rules : goal.returns-in_err-read_rules
 unfolding reading_of passing parts_of map_read
-returns-in_err-decode_rules c =
-    let p = err_from_is_err_and c.from_residual-in_err-decode_rules.result c.from_residual-in_err-decode_rules.ensures.1 in
-    let rules = map_refused _ _ (sym c.in_err-decode_rules.ensures.result_value) in
+returns-in_err-read_rules c =
+    let p = err_from_is_err_and c.from_residual-in_err-read_rules.result c.from_residual-in_err-read_rules.ensures.1 in
+    let rules = map_refused _ _ (sym c.in_err-read_rules.ensures.result_value) in
     rw (p.1, p.2) (sym (rest_refused c.args.t.now (parts_of c.in_ok-head.head) (sym c.in_ok-head.ensures) rules))
 
 pub set_of-requires : goal.set_of-requires
@@ -44,19 +40,25 @@ set_of-requires c =
 pub slice_bounds-result-end : goal.slice_bounds-result-end
 unfolding reading_of passing parts_of map_read
 slice_bounds-result-end c =
-    let (us, rules, u) = map_found _ _ (sym c.in_ok-decode_rules.ensures.result_value) in
-    sym (length-take-le _ _ (c.decode_rules.ensures.rules us rules).0)
+    let (us, rules, u) = map_found _ _ (sym c.in_ok-read_rules.ensures.result_value) in
+    let head = head_found c.args.t.now (parts_of c.in_ok-head.head) (sym c.in_ok-head.ensures) in
+    let room = room_behind _ _ _ head.behind c.requires in
+    sym (length-take-le _ _ (c.read_rules.ensures.rules room us rules).0)
 
 pub invariant_of-result : goal.invariant_of-result
 unfolding reading_of passing parts_of map_read
 invariant_of-result c =
-    let (us, rules, u) = map_found _ _ (sym c.in_ok-decode_rules.ensures.result_value) in
-    rw (c.set_of.ensures, (c.decode_rules.ensures.rules us rules).1)
+    let (us, rules, u) = map_found _ _ (sym c.in_ok-read_rules.ensures.result_value) in
+    let head = head_found c.args.t.now (parts_of c.in_ok-head.head) (sym c.in_ok-head.ensures) in
+    let room = room_behind _ _ _ head.behind c.requires in
+    rw (c.set_of.ensures, (c.read_rules.ensures.rules room us rules).1)
     (judge_well_formed c.args.t.now _ (judged c.args.t.now (parts_of c.in_ok-head.head) us (sym c.in_ok-head.ensures) rules))
 
 pub returns : goal.returns
 unfolding reading_of passing parts_of map_read
 returns c =
-    let (us, rules, u) = map_found _ _ (sym c.in_ok-decode_rules.ensures.result_value) in
-    rw (c.set_of.ensures, (c.decode_rules.ensures.rules us rules).1)
+    let (us, rules, u) = map_found _ _ (sym c.in_ok-read_rules.ensures.result_value) in
+    let head = head_found c.args.t.now (parts_of c.in_ok-head.head) (sym c.in_ok-head.ensures) in
+    let room = room_behind _ _ _ head.behind c.requires in
+    rw (c.set_of.ensures, (c.read_rules.ensures.rules room us rules).1)
     (sym (judged c.args.t.now (parts_of c.in_ok-head.head) us (sym c.in_ok-head.ensures) rules))

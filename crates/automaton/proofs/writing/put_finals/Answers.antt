@@ -16,4 +16,4 @@ put_states-requires c = rw length_fields (omega arith)
 
 pub returns : goal.returns
 returns c =
-    over_record _ _ _ _ _ _ _ c.put_head.ensures c.put_states.ensures (rw length_fields (omega arith)) (omega arith)
+    over_record _ _ _ _ _ _ _ (rw c.from.ensures at c.put_head.ensures) c.put_states.ensures (rw length_fields (omega arith)) (omega arith)

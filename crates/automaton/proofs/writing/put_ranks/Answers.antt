@@ -4,4 +4,4 @@ use Rattle.records.proofs.Buffers.{over_record}
 use Rattle.automaton.proofs.writing.put_ranks.Goals as goal
 
 pub returns : goal.returns
-returns c = over_record _ _ _ _ _ _ _ c.put_head.ensures c.put_bytes.ensures refl (omega arith)
+returns c = over_record _ _ _ _ _ _ _ (rw c.from.ensures at c.put_head.ensures) c.put_bytes.ensures refl (omega arith)

@@ -28,6 +28,6 @@ returns-clause-value c =
 
 pub returns-clause-out_after : goal.returns-clause-out_after
 returns-clause-out_after c =
-    over_rule (rule_of c.args.rule.now) _ _ c.requires _ _ _ _ (rw c.children-children.ensures at c.put_head.ensures)
-    (rw (c.from.ensures, c.symbol.ensures) at c.put2.ensures) (rw (c.from-2.ensures, c.target.ensures) at c.put2-2.ensures)
+    over_rule (rule_of c.args.rule.now) _ _ c.requires _ _ _ _ (rw (c.children-children.ensures, c.from.ensures) at c.put_head.ensures)
+    (rw (c.from-2.ensures, c.symbol.ensures) at c.put2.ensures) (rw (c.from-3.ensures, c.target.ensures) at c.put2-2.ensures)
     (rw c.children-children.ensures at c.put_fields.ensures)

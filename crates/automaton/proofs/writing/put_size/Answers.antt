@@ -10,6 +10,6 @@ unfolding bytes2 bytes4 fields encode_record
 returns c =
     over_then _ _ _ _ _ _ _
     (over_then _ _ _ _ _ _ _
-    (over_then _ _ _ _ _ _ _ c.put_head.ensures c.put2.ensures (omega arith) (omega arith))
+    (over_then _ _ _ _ _ _ _ (rw c.from.ensures at c.put_head.ensures) c.put2.ensures (omega arith) (omega arith))
     c.put2-2.ensures (omega arith) (omega arith))
     c.put2-3.ensures (omega arith) (omega arith)

@@ -9,4 +9,4 @@ pub returns : goal.returns
 unfolding bytes2
 returns c =
     let size : c.to_le_bytes.result ≡ bytes4 (2 + c.args.size) = c.to_le_bytes.ensures ∙ sym (bytes4_each _) in
-    rw (← c.from.ensures, ← size) (over_then _ _ _ _ _ _ _ c.put_bytes.ensures c.put2.ensures (omega arith) (omega arith))
+    rw (← size) (over_then _ _ _ _ _ _ _ c.put_bytes.ensures c.put2.ensures (omega arith) (omega arith))

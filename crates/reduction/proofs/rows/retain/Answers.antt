@@ -1,6 +1,6 @@
-use Rattle.std.proofs.Common.{arith}
-use Rattle.std.proofs.lemmas.Fn.{says_at}
-use Rattle.reduction.proofs.rows.Compacting.{retained_none, tested, retained_skip, retained_keep}
+use Rattle.std.proofs.Common.{◌∙◌, ap, sym, arith}
+use Rattle.automaton.specs.Row.{rule_of}
+use Rattle.reduction.proofs.rows.Compacting.{retained_none, retained_skip, rule_there, retained_keep}
 use Rattle.reduction.proofs.rows.retain.Goals as goal
 use Rattle.reduction.proofs.rows.retain.Goals.{then-passes, else-passes}
 
@@ -14,15 +14,18 @@ loop-i-preserved g c =
       | then-passes w ↦ record {
         few = omega (arith, w.kept-is);
         retained = λ test agrees.
+            let before = c.loop-i.invariant.retained test agrees in
+            let there = rule_there test _ before (omega arith) (omega arith) _ c.index-rules-i.is in
             rw (w.rules-is, w.kept-is)
-            (retained_keep test _ (c.loop-i.invariant.retained test agrees) (omega arith) (omega arith) _ w.index-rules-i-then-passes.is
-            (tested test _ _ _ (omega arith) c.index-rules-i.is (agrees _ _ (says_at g.F.Fn c.passes.ensures w.if-passes.true))));
+            (retained_keep test _ before (omega arith) (omega arith) _ w.index-rules-i-then-passes.is
+            (sym (agrees _ _ _ c.passes.ensures (omega arith) (there ∙ ap rule_of c.index-rules-i.is)) ∙ w.if-passes.true));
       }
       | else-passes w ↦ record {
         few = omega (arith, w.kept-is);
         retained = λ test agrees.
+            let before = c.loop-i.invariant.retained test agrees in
+            let there = rule_there test _ before (omega arith) (omega arith) _ c.index-rules-i.is in
             rw (w.rules-is, w.kept-is)
-            (retained_skip test _ (c.loop-i.invariant.retained test agrees) (omega arith) (omega arith) _ c.index-rules-i.is
-            (tested test _ _ _ (omega arith) c.index-rules-i.is (agrees _ _ (says_at g.F.Fn c.passes.ensures w.if-passes.false))));
+            (retained_skip test _ before (sym (agrees _ _ _ c.passes.ensures (omega arith) (there ∙ ap rule_of c.index-rules-i.is)) ∙ w.if-passes.false));
       }
     ]

@@ -1,5 +1,4 @@
 -- The names are the places of the states that are left.
-use Rattle.automaton.specs.Decoded.{automaton_of}
 use Rattle.reduction.proofs.steps.EachStep.{numbered_is}
 use Rattle.reduction.proofs.steps.number.Goals as goal
 

@@ -1,7 +1,6 @@
 -- Step 1 leaves the trimmed stage, on which step 2 may work, and steps 3 to 5 the shortened one, which step 6 numbers.
 use Rattle.std.proofs.Common.{◌≡◌, ap, rules}
 use Rattle.automaton.specs.Automaton.{Automaton, WellFormed}
-use Rattle.automaton.specs.Decoded.{automaton_of}
 use Rattle.stages.specs.Steps.{shortened, reduce, reduction_rounds}
 use Rattle.stages.proofs.Sizes.{reduce_well_formed}
 use Rattle.reduction.proofs.steps.EachStep.{trimmed_simulable}

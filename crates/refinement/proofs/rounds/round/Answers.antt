@@ -15,7 +15,7 @@ use Rattle.refinement.specs.Inner.{touches}
 use Rattle.refinement.proofs.RuleRows.{rules_more, rule_in}
 use Rattle.refinement.proofs.rounds.Underway.{rounded_none, rounded_pass, rounded_kept, rounded_fewer, rounded_all, rounded_below}
 use Rattle.refinement.proofs.rounds.round.Goals as goal
-use Rattle.refinement.proofs.rounds.round.Goals.{then-has_any+then-ne, then-has_any+else-ne, else-has_any}
+use Rattle.refinement.proofs.rounds.round.Goals.{then-touched+then-ne, then-touched+else-ne, else-touched}
 
 -- The row that was and the narrowed one.
 module _ (now was : StateSet) {row : List ℕ} (is : was.words ≡ row) where
@@ -51,24 +51,24 @@ loop-rule-preserved c states m a =
     let before = c.loop-rule.invariant states m a in
     let children = ap (any (member c.args.changed.words)) c.children.ensures in
     rw (rules_more c.args.rules.now c.loop-rule.rule-index c.rule-item.result c.loop-rule-test.true c.rule-item.is)
-    (elim c.if-has_any.branch [
-      | then-has_any+then-ne w ↦
+    (elim c.if-touched.branch [
+      | then-touched+then-ne w ↦
           let was = get_or c.loop-rule.next w.from.result w.index-next-from.result in
           let held = entry_read c.loop-rule.next w.from.result w.index-next-from.result (omega arith)
           ∙ ap (entry_at c.loop-rule.next) (w.from.ensures ∙ w.target-q.ensures) in
           let narrowed = rw held at (w.narrow-narrowed.ensures m a.answering (rw held (rounded_below before m a.low u.target known.0 known.1))) in
           rw (w.next-is, w.lost-is, w.insert.ensures, w.from-then-ne.ensures, w.target-q.ensures)
-          (rounded_fewer touched others passed u before w.narrow-narrowed.result (sym (w.if-has_any.ensures ∙ children)) known.0 known.1 narrowed
+          (rounded_fewer touched others passed u before w.narrow-narrowed.result (sym (w.if-touched.ensures ∙ children)) known.0 known.1 narrowed
           (omega arith) (other_row w.narrow-narrowed.result was held w.if-ne.ensures))
-      | then-has_any+else-ne w ↦
+      | then-touched+else-ne w ↦
           let was = get_or c.loop-rule.next w.from.result w.index-next-from.result in
           let held = entry_read c.loop-rule.next w.from.result w.index-next-from.result (omega arith)
           ∙ ap (entry_at c.loop-rule.next) (w.from.ensures ∙ w.target-q.ensures) in
           let narrowed = rw held at (w.narrow-narrowed.ensures m a.answering (rw held (rounded_below before m a.low u.target known.0 known.1))) in
           rw (w.next-is, w.lost-is)
-          (rounded_kept touched others passed u before w.narrow-narrowed.result (sym (w.if-has_any.ensures ∙ children)) known.0 known.1 narrowed
+          (rounded_kept touched others passed u before w.narrow-narrowed.result (sym (w.if-touched.ensures ∙ children)) known.0 known.1 narrowed
           (same_row w.narrow-narrowed.result was held w.if-ne.ensures))
-      | else-has_any w ↦ rw (w.next-is, w.lost-is) (rounded_pass touched others passed u before (sym (w.if-has_any.ensures ∙ children)))
+      | else-touched w ↦ rw (w.next-is, w.lost-is) (rounded_pass touched others passed u before (sym (w.if-touched.ensures ∙ children)))
     ])
 
 pub returns : goal.returns

@@ -14,13 +14,16 @@ loop-child-preserved c =
     (omega (arith, length_mapped name c.args.self.children turn.child-items turn.child-index turn.invariant)) turn.invariant
     (c.from.ensures ∙ get_or_default turn.child-items turn.child-index 0 _ within)
 
+pub invariant_of-result-clause-numbers : goal.invariant_of-result-clause-numbers
+invariant_of-result-clause-numbers c = (c.args.self.numbers.0, omega (arith, c.type_inv.names c.from-2.result))
+
 pub invariant_of-result-clause-states : goal.invariant_of-result-clause-states
 invariant_of-result-clause-states c =
     let name : ℕ → ℕ = λ q. get_or c.args.names.now q 0 in
     let turn = c.loop-child in
     let last : length c.args.self.children ≤ turn.child-index = omega (arith, c.args.self.room) in
     rw (all_mapped name c.args.self.children turn.child-items turn.child-index turn.invariant last)
-    (bytes_map name c.fits-names c.args.self.children)
+    (bytes_map name (λ i. omega (arith, c.type_inv.names i)) c.args.self.children)
 
 pub returns : goal.returns
 unfolding renamed

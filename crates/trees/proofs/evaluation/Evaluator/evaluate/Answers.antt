@@ -1,11 +1,11 @@
 use Rattle.std.proofs.Common.{arith, refl, ◌∙◌}
 use Rattle.std.proofs.lemmas.Result.{err_from_is_err_and}
-use Rattle.trees.specs.Inner.{Consecutive}
+use Rattle.trees.specs.Inner.{ConsecutiveBy}
 use Rattle.trees.proofs.evaluation.Nodes.{number_more, walk_begins, walked_few, walk_ends, walk_refused, walk_counts, walk_next, consecutive_next}
 use Rattle.trees.proofs.evaluation.Evaluator.evaluate.Goals as goal
 
 pub loop-symbol-init : goal.loop-symbol-init
-unfolding Consecutive
+unfolding ConsecutiveBy
 loop-symbol-init c =
     rw (c.into_iter-symbol-iterator.ensures.into_iter_gives, c.chunks_exact-symbol-items.ensures.rest)
     record { pairs = c.chunks_exact-symbol-items.ensures.size; left = omega arith; consecutive = refl; walked = walk_begins _ _ _ }
