@@ -28,7 +28,7 @@ few [] h = refl
 few (x ∷ []) h = refl
 few (x ∷ (y ∷ b)) h = absurd (omega arith)
 
-pair : (p b : List ℕ) → length p ≡ 2 → numbers (p ++ b) ≡ number2 p ∷ numbers b
+pub pair : (p b : List ℕ) → length p ≡ 2 → numbers (p ++ b) ≡ number2 p ∷ numbers b
 unfolding numbers number2
 pair [] b h = absurd (omega arith)
 pair (x ∷ []) b h = absurd (omega arith)

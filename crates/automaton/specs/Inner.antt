@@ -55,5 +55,5 @@ pub record RuleBody (b : List ℕ) : Type 0 where
   pub low : All (λ (v : ℕ). v < 256) (numbers b)
 
 -- Room for each rule that t may hold: a rule takes ten bytes at least.
-unfoldable pub RowsRoom : List ℕ → List Row → Type 0
+abbrev pub RowsRoom : List ℕ → List Row → Type 0
 RowsRoom t rows = (k : ℕ) → k ≤ 1024 → 10 * k ≤ length t → k ≤ length rows

@@ -144,17 +144,3 @@ among_out xs q h =
 pub among_in : {xs : List ℕ} {q : ℕ} → Memᴰ q xs → among xs q ≡ true
 unfolding among
 among_in {xs} {q} m = any_in (λ (p : ℕ). eqb p q) m (eq-eqb q q refl)
-
--- A test of all elements from an index on: it fails at the first that fails, goes on after one that passes, and holds at the end.
-module _ (test : ℕ → Bool) (b : List ℕ) (i : ℕ) where
-  pub all_stop : i < length b → test (get_or b i 0) ≡ false → all test (drop i b) ≡ false
-  unfolding all
-  all_stop h e = rw (drop-cons b i 0 h, e)
-
-  pub all_go_on : i < length b → test (get_or b i 0) ≡ true → all test (drop i b) ≡ all test (drop (i + 1) b)
-  unfolding all
-  all_go_on h e = rw (add-one, drop-cons b i 0 h, e)
-
-  pub all_end : length b ≤ i → all test (drop i b) ≡ true
-  unfolding all
-  all_end h = rw (drop_of_length-le b h)

@@ -1,10 +1,10 @@
 -- What the answer of `open` says once the code has taken it apart, where it finds no record. By the answer's case; used by `body` and by the code
 -- above that asks for a record.
 use Prim.Native.Nat.{ℕ}
-use mathlib.Core.Path.{◌≡◌, refl, sym, ◌∙◌}
+use mathlib.Core.Path.{◌≡◌, refl, ◌∙◌}
 use mathlib.Core.List.{List}
 use Rattle.std.specs.Prelude.{Result, Ok, Err, Option, Some, None}
-use Rattle.records.specs.Record.{whole, nothing, opened}
+use Rattle.records.specs.Record.{whole, opened}
 use Rattle.records.specs.Answers.{opening_of}
 use Rattle.records.specs.declared.record.Opened.{Opened}
 use Rattle.records.specs.declared.refusal.Refusal.{Refusal}
@@ -16,10 +16,3 @@ unfolding opening_of
 none_opens b (Ok (Some r)) e none kind end h = none r refl
 none_opens b (Ok None) e none kind end h = nothing≢whole (e ∙ h)
 none_opens b (Err cause) e none kind end h = refused≢whole (e ∙ h)
-
--- Where `open` does not refuse.
-pub nothing_left : (b : List ℕ) (o : Option Opened) → opening_of (Ok o) ≡ opened b → ((r : Opened) → o ≡ Some r → ⊥)
-    → opened b ≡ nothing
-unfolding opening_of
-nothing_left b (Some r) e none = absurd (none r refl)
-nothing_left b None e none = sym e

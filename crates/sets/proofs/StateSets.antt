@@ -4,7 +4,7 @@ use Prim.Native.Nat.{ℕ, zero, suc, ◌+◌, ◌*◌, ◌/◌, ◌%◌, ◌^◌
 use mathlib.Core.Path.{◌≡◌, refl, sym, ap, ◌∙◌}
 use mathlib.Core.List.{List, [], ◌∷◌, append-nil, Memᴰ}
 use mathlib.Core.Bool.{Bool, true, false, cond, not, ◌&&◌, ◌||◌, xor, true≢false, false≢true, or_comm, or-true, or-false}
-use mathlib.Core.Bool.{and-false, and_comm}
+use mathlib.Core.Bool.{and_comm}
 use native.Mathlib.Nat.{one-mul, zero-div, pow-suc}
 use native.Mathlib.Numerals.{one-add, add-one}
 use native.Mathlib.Omega.{arith}
@@ -371,23 +371,6 @@ below_more set q has r b = member_with set q r b ∙ go (eqb r q) refl
     go : (t : Bool) → eqb r q ≡ t → (t || member set r) ≡ ltb r (q + 1)
     go true e = let same = eqb-true r q e in sym (lt-ltb r (q + 1) (omega arith))
     go false e = has r b ∙ sym (ltb_more r q (eqb-false r q e))
-
-module _ (set : List ℕ) (test : ℕ → Bool) (q : ℕ) (has : Has set (λ (r : ℕ). ltb r q && test r)) where
-  pub below_in : q < 256 → test q ≡ true → Has (with_state set q) (λ (r : ℕ). ltb r (q + 1) && test r)
-  below_in h is r b = member_with set q r b ∙ go (eqb r q) refl
-    where
-      go : (t : Bool) → eqb r q ≡ t → (t || member set r) ≡ (ltb r (q + 1) && test r)
-      go true e =
-          let same = eqb-true r q e in
-          rw (lt-ltb r (q + 1) (omega arith), same, is)
-      go false e = rw (ltb_more r q (eqb-false r q e)) (has r b)
-
-  pub below_out : test q ≡ false → Has set (λ (r : ℕ). ltb r (q + 1) && test r)
-  below_out is r b = has r b ∙ go (eqb r q) refl
-    where
-      go : (t : Bool) → eqb r q ≡ t → (ltb r q && test r) ≡ (ltb r (q + 1) && test r)
-      go true e = rw (eqb-true r q e, is, and-false, and-false)
-      go false e = rw (ltb_more r q (eqb-false r q e))
 
 -- What holds of each state of a set, and of one more.
 pub with_each : (P : ℕ → Type 0) (set : List ℕ) (q : ℕ) → ((r : ℕ) → r < 256 → member set r ≡ true → P r) → P q

@@ -79,7 +79,6 @@ module _ (n : ℕ) (ranks : List ℕ) (k : ℕ) (t : List ℕ) (rows₀ : List R
     module _ (more : i < k) (few : k ≤ 1024) (room : RowsRoom t rows₀) {end : ℕ}
         (h : judge_record 4 7 (judge_rule n ranks) rest ≡ found end) where
       pub next_room : i < length rows
-      unfolding RowsRoom
       next_room =
           omega (arith, r.as_long, room (i + 1) (omega arith) (omega (arith, rule_long n ranks rest h, record_within 4 7 _ rest h, r.within)))
 
@@ -114,7 +113,6 @@ module _ (n : ℕ) (ranks : List ℕ) (k : ℕ) (t : List ℕ) (rows₀ : List R
 
 -- Room for the rules of a table is room for those of a part of it.
 pub room_behind : (t rest : List ℕ) (rows : List Row) → length rest ≤ length t → RowsRoom t rows → RowsRoom rest rows
-unfolding RowsRoom
 room_behind t rest rows behind room k few h = room k few (omega arith)
 
 -- The automaton of a table whose rules are read.

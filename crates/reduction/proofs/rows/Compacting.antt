@@ -68,9 +68,6 @@ module _ (name : ℕ → ℕ) (old : List Row) where
   abbrev pub Renamed : ℕ → List Row → Type 0
   Renamed i rows = Overwritten old (map (renamed name) (rules_of (take i old))) i i rows
 
-  pub renamed_none : Renamed 0 old
-  renamed_none = none_written old
-
   pub renamed_next : {i : ℕ} {rows : List Row} → Renamed i rows → i < length old → i < length rows → (row new : Row)
       → row ≡ get_or rows i row → rule_of new ≡ renamed name (rule_of (get_or rows i row)) → Renamed (i + 1) (set rows i new)
   renamed_next {i} w low room row new is e =

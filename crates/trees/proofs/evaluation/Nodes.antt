@@ -4,7 +4,7 @@ use Prim.Native.Nat.{ℕ, suc, ◌+◌, ◌-◌, ◌*◌, ◌/◌, ◌≤◌, �
 use native.Mathlib.Numerals.{add-one}
 use native.Mathlib.Omega.{arith}
 use mathlib.Core.Path.{◌≡◌, refl, sym, ap, ◌∙◌}
-use mathlib.Core.List.{List, [], ◌∷◌, ◌++◌, reverse}
+use mathlib.Core.List.{List, ◌++◌, reverse}
 use lib.ListN.{length, take, drop, get_or, set, length-append}
 use Rattle.std.specs.Prelude.{Result, Ok, Err, Option, None}
 use Rattle.lists.specs.Lists.{any}
@@ -15,6 +15,7 @@ use Rattle.records.specs.Answers.{reading_of}
 use Rattle.records.specs.Bytes.{number2, numbers}
 use Rattle.records.specs.declared.refusal.Refusal.{Refusal}
 use Rattle.records.proofs.Fields.{numbers_end}
+use Rattle.automaton.proofs.Chunks.{pair}
 use Rattle.automaton.specs.Automaton.{Automaton}
 use Rattle.indexing.specs.Index.{numbers_of}
 use Rattle.trees.specs.Subtree.{first_of}
@@ -124,14 +125,6 @@ pub consecutive_next : (stack : List Entry) (answer : Result Held Refusal) (next
 unfolding LeavesConsecutive
 consecutive_next stack answer next e c = rw e at c
 
--- The next number in some bytes, two at a time.
-pair_first : (p b : List ℕ) → length p ≡ 2 → numbers (p ++ b) ≡ number2 p ∷ numbers b
-unfolding numbers number2
-pair_first [] b two = absurd (omega arith)
-pair_first (x ∷ []) b two = absurd (omega arith)
-pair_first (x ∷ (y ∷ [])) b two = refl
-pair_first (x ∷ (y ∷ (z ∷ p))) b two = absurd (omega arith)
-
 -- So many nodes were read of a body, and its rest is left: a number more.
 pub number_more : (nodes : ℕ) (b rest p rest' : List ℕ) → 2 * nodes + length rest ≡ length b → length p ≡ 2 → rest ≡ p ++ rest'
     → (nodes < length b / 2) × (2 * (nodes + 1) + length rest' ≡ length b)
@@ -162,7 +155,7 @@ module _ (A : Automaton) (b : List ℕ) where
       left_after : advance_all A start (numbers b)
           ≡ stepped_of stack' answer >>= (λ (next : Walk). advance_all A next (numbers rest'))
       unfolding advance_all
-      left_after = w.left ∙ rw (splits, pair_first p rest' two, ← is, s)
+      left_after = w.left ∙ rw (splits, pair p rest' two, ← is, s)
 
       pub walk_refused : (cause : Refusal) → answer ≡ Err cause → stepped_of stack' (Err cause) ≡ advance_all A start (numbers b)
       unfolding stepped_of reading_of map_read ◌>>=◌

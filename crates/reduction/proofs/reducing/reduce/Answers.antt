@@ -1,16 +1,11 @@
 -- The table is decoded, reduced and written, or the refusal handed on.
-use Rattle.std.proofs.Common.{rules, arith, sym}
+use Rattle.std.proofs.Common.{arith, sym}
 use Rattle.std.specs.Prelude.{Err}
 use Rattle.std.proofs.lemmas.Result.{err_from_is_err_and}
 use Rattle.records.specs.Answers.{reading_of}
-use Rattle.automaton.specs.Inner.{RowsRoom}
 use Rattle.reduction.proofs.Answers.{reduce_refused, reduce_short, reduce_written}
 use Rattle.reduction.proofs.Demand3.{promised}
 use Rattle.reduction.proofs.reducing.reduce.Goals as goal
-
-pub decode-requires : goal.decode-requires
-unfolding RowsRoom
-decode-requires c = search rules
 
 pub returns-in_err-decoded : goal.returns-in_err-decoded
 unfolding reading_of

@@ -2,14 +2,9 @@
 use Rattle.std.proofs.Common.{arith, rules, sym}
 use Rattle.lists.specs.Lists.{none, also}
 use Rattle.records.specs.Answers.{reading_of}
-use Rattle.automaton.specs.Inner.{RowsRoom}
 use Rattle.reporting.specs.Report.{refused_word}
 use Rattle.reporting.proofs.Reporting.{refusal_few, report_refused, numbers_few, report_found}
 use Rattle.reporting.proofs.lines.report_on.Goals as goal
-
-pub decode-requires : goal.decode-requires
-unfolding RowsRoom
-decode-requires c = search rules
 
 -- The table is refused.
 

@@ -2,7 +2,6 @@
 use Rattle.std.proofs.Common.{◌∙◌, sym}
 use Rattle.std.proofs.lemmas.List.{length-replicate}
 use Rattle.std.proofs.lemmas.Result.{err_from_is_err_and}
-use Rattle.automaton.specs.Inner.{RowsRoom}
 use Rattle.automaton.proofs.Theorems.{judged_well_formed}
 use Rattle.records.specs.Answers.{reading_of}
 use Rattle.records.specs.Read.{map_read}
@@ -11,7 +10,6 @@ use Rattle.simulation.proofs.Acceptance.{table_refused, few_rules, table_found}
 use Rattle.simulation.proofs.checking.check_tree_in.Goals as goal
 
 pub decode-requires : goal.decode-requires
-unfolding RowsRoom
 decode-requires g c = λ k few long. rw length-replicate (c.requires.room k few long).0
 
 pub returns-in_err-decoded : goal.returns-in_err-decoded

@@ -1,16 +1,11 @@
 -- Where the table is not refused and has both states, the answer is that of the states' comparison.
-use Rattle.std.proofs.Common.{sym, arith, rules}
+use Rattle.std.proofs.Common.{sym, arith}
 use mathlib.Core.Logic.{inl, inr}
 use Rattle.std.proofs.lemmas.Result.{err_from_is_err_and}
-use Rattle.automaton.specs.Inner.{RowsRoom}
 use Rattle.records.specs.Answers.{reading_of}
 use Rattle.simulation.proofs.Queries.{states_of, compares_refused, compares_outside, compares_by}
 use Rattle.simulation.proofs.query.compare.Goals as goal
 use Rattle.simulation.proofs.query.compare.Goals.{then-q-n-via-then-q-n, then-q-n-via-else-q-n+then-r-n}
-
-pub decode-requires : goal.decode-requires
-unfolding RowsRoom
-decode-requires c = search rules
 
 pub returns-in_err-decoded : goal.returns-in_err-decoded
 unfolding reading_of

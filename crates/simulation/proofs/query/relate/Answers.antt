@@ -1,14 +1,9 @@
 -- Where the table is not refused and the room suffices, the relation's rows are written and their states counted.
-use Rattle.std.proofs.Common.{sym, arith, rules}
+use Rattle.std.proofs.Common.{sym, arith}
 use Rattle.std.proofs.lemmas.Result.{err_from_is_err_and}
-use Rattle.automaton.specs.Inner.{RowsRoom}
 use Rattle.records.specs.Answers.{reading_of}
 use Rattle.simulation.proofs.Queries.{states_of, query_refused, query_short, query_written}
 use Rattle.simulation.proofs.query.relate.Goals as goal
-
-pub decode-requires : goal.decode-requires
-unfolding RowsRoom
-decode-requires c = search rules
 
 pub returns-in_err-decoded : goal.returns-in_err-decoded
 unfolding reading_of
