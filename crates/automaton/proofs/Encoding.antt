@@ -13,7 +13,7 @@ use Rattle.records.specs.Record.{encode_record, whole, opened, body_of}
 use Rattle.records.specs.Read.{Read, found, ◌>>=◌}
 use Rattle.records.proofs.Fields.{length_fields, Bytes, bytes_none, bytes_also, bytes_drop, bytes_fields, numbers_step, two_numbers}
 use Rattle.records.proofs.Fields.{numbers_end, length_numbers, fields_numbers, numbers_fields, first_field, drop_field, drop_two_fields}
-use Rattle.records.proofs.Records.{length_record, length_record_more, bytes_record, bytes_body, record_opens, record_body, record_behind}
+use Rattle.records.proofs.Records.{length_record_more, bytes_record, bytes_body, record_opens, record_body, record_behind}
 use Rattle.records.proofs.Records.{record_encoded}
 use Rattle.automaton.specs.Automaton.{Rule, WellFormed, Automaton, WellFormedRule}
 use Rattle.automaton.specs.Table.{judge_record, size_in, judge_size, rule_in, judge_rule, judge_rules}
@@ -256,10 +256,6 @@ encode_bytes A w =
     (bytes_record 3 (fields A.finals) b₃ (bytes_fields A.finals) (bytes_rules A.rules)))
 
 -- How long the encoding is: a rule takes 10 to 26 bytes, a table 24 to 27,416.
-
-pub length_rule : (u : Rule) → length (encode_rule u) ≡ 10 + 2 * length u.children
-unfolding encode_rule
-length_rule u = rw (length_record, length_fields) (omega arith)
 
 pub length_rules : (u : Rule) (us : List Rule)
     → length (encode_rules (u ∷ us)) ≡ 10 + 2 * length u.children + length (encode_rules us)

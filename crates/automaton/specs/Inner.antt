@@ -1,17 +1,20 @@
 -- What the contracts of inner functions and of those that are exported for the crates above cite; no call for everybody cites any of it.
 -- Places that an array does not have, where `get_or` would give its default, are ruled out by the bounds in the contracts that cite these.
-use Rattle.std.specs.Prelude.{ℕ, ◌*◌, ◌%◌, ◌≤◌, ◌<◌, ◌≡◌, List, length, drop, Result}
+use Rattle.std.specs.Prelude.{ℕ, zero, suc, ◌*◌, ◌%◌, ◌≤◌, ◌<◌, ◌≡◌, List, [], ◌∷◌, length, drop, Result, Ok, Err}
+use denote.Ref.{Bor}
 use Rattle.lists.specs.Lists.{All}
 use Rattle.records.specs.Answers.{reading_of}
 use Rattle.records.specs.Bytes.{numbers}
-use Rattle.records.specs.Read.{Read, found, ◌>>=◌, map_read}
-use Rattle.records.specs.Record.{body_of}
+use Rattle.records.specs.Read.{Read, found, refused, ◌>>=◌, ◌>>◌, map_read}
+use Rattle.records.specs.Record.{opened, body_of}
+use Rattle.records.specs.Refusal.{number_of}
 use Rattle.records.specs.declared.refusal.Refusal.{Refusal}
 use Rattle.automaton.specs.Automaton.{Automaton}
-use Rattle.automaton.specs.Table.{judge_record, size_in, judge_size, judge_ranks, judge_finals, judge_rules}
+use Rattle.automaton.specs.Table.{due, judge_record, size_in, judge_size, judge_ranks, judge_finals, judge_rule, judge_rules}
 use Rattle.automaton.specs.declared.row.Row.{Row}
 use Rattle.automaton.specs.declared.table.Size.{Size}
-use Rattle.automaton.specs.declared.table.Head.{Head}
+use Rattle.automaton.specs.declared.head.Head.{Head}
+use Rattle.automaton.specs.declared.head.Rules.{Rules}
 
 -- Whether reading passes, without what was read.
 unfoldable pub passing : {A : Type 0} → Read A → Read (Unit {0})
@@ -53,6 +56,34 @@ pub record RuleBody (b : List ℕ) : Type 0 where
   pub few : length b ≤ 20
   pub even : length b % 2 ≡ 0
   pub low : All (λ (v : ℕ). v < 256) (numbers b)
+
+-- Where the next of k rules ends, and behind the last one the cause of what stands there.
+unfoldable pub next_end : ℕ → List ℕ → ℕ → List ℕ → Read ℕ
+next_end n ranks zero b = due 4 7 (opened b) >> refused 7
+next_end n ranks (suc k) b = judge_record 4 7 (judge_rule n ranks) b
+
+-- The bodies of k rules, each judged; the last is a cause of refusal where there is one, in a rule or behind them. The rules that they hold are those
+-- of `judge_rules` (`rules_read` of proofs/head/Bodies.antt).
+unfoldable pub then_bodies : Read ℕ → List ℕ → (ℕ → List (Read (List ℕ))) → List (Read (List ℕ))
+then_bodies (found end) b others = found (body_of b) ∷ others end
+then_bodies (refused cause) b others = refused cause ∷ []
+
+unfoldable pub bodies : ℕ → List ℕ → ℕ → List ℕ → List (Read (List ℕ))
+bodies n ranks zero [] = []
+bodies n ranks zero (x ∷ b) = then_bodies (next_end n ranks zero (x ∷ b)) (x ∷ b) (λ end. [])
+bodies n ranks (suc k) b = then_bodies (next_end n ranks (suc k) b) b (λ end. bodies n ranks k (drop end b))
+
+-- What is left to an iterator over the rules, and what one of its items reads as.
+unfoldable pub bodies_left : Rules → List (Read (List ℕ))
+bodies_left s = bodies s.head.size.states s.head.ranks.now s.left s.rest.now
+
+unfoldable pub body_read : Result (Bor (List ℕ)) Refusal → Read (List ℕ)
+body_read (Ok body) = found body.now
+body_read (Err cause) = refused (number_of cause)
+
+abbrev pub Judged : Read (List ℕ) → Type 0
+Judged (found body) = RuleBody body
+Judged (refused cause) = Unit {0}
 
 -- Room for each rule that t may hold: a rule takes ten bytes at least.
 abbrev pub RowsRoom : List ℕ → List Row → Type 0

@@ -9,13 +9,14 @@ ghost use Rattle.automaton.specs.Automaton.{WellFormed};
 ghost use Rattle.automaton.specs.Row.{rules_of};
 ghost use Rattle.automaton.specs.Inner.{RowsRoom};
 
+use crate::head::Head;
 use crate::row::Row;
-use crate::table::{Size, judge_head, read_rules};
+use crate::table::Size;
 use records::Refusal;
 use sets::StateSet;
 use std::marker::Model;
 
-// A decoded table: contracts see the automaton that it holds, which is well-formed. Its ranks are a part of the table's bytes.
+// A decoded table: contracts see the automaton that it holds, which is well-formed; its set has no other states. Its ranks are a part of the table's bytes.
 #[derive(Drop)]
 pub struct Table<'t, 'r> {
     pub states: usize,
@@ -33,11 +34,26 @@ impl<'t, 'r> Model for Table<'t, 'r> {
 
     ghost view = { automaton_of };
 
-    ghost invariant = { λ t. WellFormed (automaton_of t) };
+    ghost use Rattle.sets.specs.Inner.{Below};
+
+    ghost invariant = { λ t. WellFormed (automaton_of t) × Below t.states t.finals.words };
 }
 
 impl<'t, 'r> Table<'t, 'r> {
-    ghost use Rattle.automaton.specs.Decoded.{size_of};
+    ghost use Rattle.automaton.specs.Decoded.{automaton_in, size_of};
+
+    // A table of these parts. States of the set that it does not have are left out.
+    pub fn new(states: usize, ranks: &'t [u8], finals: StateSet, rules: &'r mut [Row]) -> Self
+        requires { WellFormed (automaton_in states ranks.now finals.words rules.old) }
+        ensures { result ≡ automaton_in states ranks.now finals.words rules.old }
+    {
+        Table {
+            states,
+            ranks,
+            finals: finals.meet(StateSet::below(states)),
+            rules,
+        }
+    }
 
     // Its counts.
     pub fn size(&self) -> Size
@@ -58,7 +74,7 @@ impl<'t, 'r> Table<'t, 'r> {
     }
 
     pub fn finals(&self) -> StateSet
-        ensures { self.now.finals ≡ states_in self.now.states result.words }
+        ensures { self.now.finals ≡ states_in 256 result.words }
     {
         self.finals
     }
@@ -77,7 +93,7 @@ fn set_of(b: &[u8]) -> StateSet
 {
     let mut set = StateSet::empty();
     for q in b.chunks_exact(2) {
-        set = set.with(q[0]);
+        set.insert(q[0]);
     }
     set
 }
@@ -88,13 +104,14 @@ pub fn decode<'t, 'r>(t: &'t [u8], rows: &'r mut [Row]) -> Result<Table<'t, 'r>,
     requires { RowsRoom t.now rows.old }
     ensures { reading_of result ≡ table.judge t.now }
 {
-    let head = judge_head(t)?;
-    let count = head.size.rules;
-    read_rules(head.rules, head.size.states, head.ranks, count, rows)?;
+    let head = Head::judge(t)?;
+    for (i, body) in head.rules().enumerate() {
+        rows[i] = Row::read(body?);
+    }
     Ok(Table {
         states: head.size.states,
         ranks: head.ranks,
         finals: set_of(head.finals),
-        rules: &mut rows[..count],
+        rules: &mut rows[..head.size.rules],
     })
 }

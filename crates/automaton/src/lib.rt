@@ -3,6 +3,7 @@
 #![tactic(auto)]
 
 mod decoding;
+mod head;
 mod row;
 mod table;
 mod writing;

@@ -73,15 +73,11 @@ impl Row {
         requires { 256 ≤ length names.now }
         ensures { rule_of result ≡ renamed (λ (q : ℕ). get_or names.now q 0) (rule_of self) }
     {
-        let mut children = self.children;
-        for child in children.iter_mut() {
-            *child = names[usize::from(*child)];
-        }
         Row {
             symbol: self.symbol,
             target: names[usize::from(self.target)],
             rank: self.rank,
-            children,
+            children: self.children.map(|child| names[usize::from(child)]),
         }
     }
 }

@@ -1,9 +1,11 @@
-// A decoded table written back into bytes. Each function that writes says which bytes stand where afterwards; the others stay.
-ghost use Rattle.std.specs.Prelude.{◌≡◌, ◌∷◌, [], ◌+◌, ◌*◌, ◌≤◌, ◌<◌, length};
-ghost use Rattle.lists.specs.Over.{over};
+// A decoded table written back into bytes, part after part.
+#![tactic(auto, using(crate::proofs::writing::Parts::by_table), unfolding(crate::specs::Decoded::size_of, crate::specs::Table::encode_rule))]
+
+ghost use Rattle.std.specs.Prelude.{◌≡◌, ◌∷◌, [], ◌+◌, ◌*◌, ◌≤◌, length};
 ghost use Rattle.sets.specs.Inner.{states_in};
 ghost use Rattle.records.specs.Bytes.{fields};
 ghost use Rattle.records.specs.Record.{encode_record};
+ghost use Rattle.records.specs.Pen.{put_in, HasRoom};
 ghost use Rattle.records.specs.Output.{written, written_over};
 ghost use Rattle.records.specs.Answers.{reading_of};
 ghost use Rattle.automaton.specs.Table.{encode, encode_rule, encode_rules};
@@ -12,31 +14,29 @@ ghost use Rattle.automaton.specs.Row.{rule_of, rules_of};
 use crate::decoding::Table;
 use crate::row::Row;
 use crate::table::Size;
-use records::{Kind, Refusal, put_bytes, put_fields, put_head, put2};
+use records::{Kind, Pen, Refusal};
 use sets::StateSet;
 
 // The states of the set, in order, two bytes each.
-fn put_states(out: &mut [u8], at: usize, set: StateSet)
-    requires { at + length (fields (states_in 256 set.words)) ≤ length out.old }
-    ensures { out.new ≡ over out.old at (fields (states_in 256 set.words)) }
+fn put_states(pen: &mut Pen, set: StateSet)
+    requires { HasRoom (length (fields (states_in 256 set.words))) pen.old }
+    ensures { pen.new ≡ put_in (fields (states_in 256 set.words)) pen.old }
 {
-    for (i, q) in set.states().enumerate() {
-        put2(out, at + 2 * i, u16::from(q));
+    for q in set.states() {
+        pen.put2(u16::from(q));
     }
 }
 
-// A rule as a record; the answer is where the next one goes.
-fn put_rule(out: &mut [u8], at: usize, rule: &Row) -> usize
-    requires { at + length (encode_rule (rule_of rule.now)) ≤ length out.old }
-    ensures value { result ≡ at + length (encode_rule (rule_of rule.now)) }
-    ensures out_after { out.new ≡ over out.old at (encode_rule (rule_of rule.now)) }
+// A rule as a record.
+fn put_rule(pen: &mut Pen, rule: &Row)
+    requires { HasRoom (length (encode_rule (rule_of rule.now))) pen.old }
+    ensures { pen.new ≡ put_in (encode_rule (rule_of rule.now)) pen.old }
 {
     let children = rule.children();
-    put_head(out, at, u16::from(Kind::Rule), 4 + 2 * children.len());
-    put2(out, at + 6, u16::from(rule.symbol()));
-    put2(out, at + 8, u16::from(rule.target()));
-    put_fields(out, at + 10, children);
-    at + 10 + 2 * children.len()
+    pen.put_head(u16::from(Kind::Rule), 4 + 2 * children.len());
+    pen.put2(u16::from(rule.symbol()));
+    pen.put2(u16::from(rule.target()));
+    pen.put_fields(children);
 }
 
 // How many bytes some rules take.
@@ -52,46 +52,45 @@ fn rules_length(rules: &[Row]) -> usize
 }
 
 // Some rules, one after the other.
-fn put_rules(out: &mut [u8], at: usize, rules: &[Row])
-    requires { at + length (encode_rules (rules_of rules.now)) ≤ length out.old }
-    ensures { out.new ≡ over out.old at (encode_rules (rules_of rules.now)) }
+fn put_rules(pen: &mut Pen, rules: &[Row])
+    requires { HasRoom (length (encode_rules (rules_of rules.now))) pen.old }
+    ensures { pen.new ≡ put_in (encode_rules (rules_of rules.now)) pen.old }
 {
-    let mut next = at;
     for rule in rules {
-        next = put_rule(out, next, rule);
+        put_rule(pen, rule);
     }
 }
 
 // The first record: the counts.
-fn put_size(out: &mut [u8], size: Size)
-    requires in_bounds { 12 ≤ length out.old }
+fn put_size(pen: &mut Pen, size: Size)
+    requires room { HasRoom 12 pen.old }
     requires states_bound { (size.states ≤ 256) × ((size.symbols ≤ 256) × (size.rules ≤ 1024)) }
-    ensures { out.new ≡ over out.old 0
-        (encode_record 1 (fields (size.states ∷ size.symbols ∷ size.rules ∷ []))) }
+    ensures { pen.new
+        ≡ put_in (encode_record 1 (fields (size.states ∷ size.symbols ∷ size.rules ∷ []))) pen.old }
 {
-    put_head(out, 0, u16::from(Kind::Size), 6);
-    put2(out, 6, size.states as u16);
-    put2(out, 8, size.symbols as u16);
-    put2(out, 10, size.rules as u16);
+    pen.put_head(u16::from(Kind::Size), 6);
+    pen.put2(size.states as u16);
+    pen.put2(size.symbols as u16);
+    pen.put2(size.rules as u16);
 }
 
 // The second record: the ranks.
-fn put_ranks(out: &mut [u8], at: usize, ranks: &[u8])
+fn put_ranks(pen: &mut Pen, ranks: &[u8])
     requires few { length ranks.now ≤ 256 }
-    requires in_bounds { at + 6 + length ranks.now ≤ length out.old }
-    ensures { out.new ≡ over out.old at (encode_record 2 ranks.now) }
+    requires room { HasRoom (6 + length ranks.now) pen.old }
+    ensures { pen.new ≡ put_in (encode_record 2 ranks.now) pen.old }
 {
-    put_head(out, at, u16::from(Kind::Ranks), ranks.len());
-    put_bytes(out, at + 6, ranks);
+    pen.put_head(u16::from(Kind::Ranks), ranks.len());
+    pen.put(ranks);
 }
 
 // The third record: the final states.
-fn put_finals(out: &mut [u8], at: usize, finals: StateSet)
-    requires { at + 6 + 2 * length (states_in 256 finals.words) ≤ length out.old }
-    ensures { out.new ≡ over out.old at (encode_record 3 (fields (states_in 256 finals.words))) }
+fn put_finals(pen: &mut Pen, finals: StateSet)
+    requires { HasRoom (6 + 2 * length (states_in 256 finals.words)) pen.old }
+    ensures { pen.new ≡ put_in (encode_record 3 (fields (states_in 256 finals.words))) pen.old }
 {
-    put_head(out, at, u16::from(Kind::Finals), 2 * finals.len());
-    put_states(out, at + 6, finals);
+    pen.put_head(u16::from(Kind::Finals), 2 * finals.len());
+    put_states(pen, finals);
 }
 
 // Writes a decoded table to the start of `out` and returns its length; refusal 13, and nothing written, where the room is short.
@@ -100,16 +99,16 @@ pub fn write(table: &Table, out: &mut [u8]) -> Result<usize, Refusal>
     ensures out_after { out.new ≡ written_over (encode table.now) out.old }
 {
     let size = table.size();
-    let finals = table.finals().meet(StateSet::below(size.states));
+    let finals = table.finals();
     let rules = table.rules();
-    let rules_at = 24 + size.symbols + 2 * finals.len();
-    let length = rules_at + rules_length(rules);
+    let length = 24 + size.symbols + 2 * finals.len() + rules_length(rules);
     if out.len() < length {
         return Err(Refusal::ShortOutput);
     }
-    put_size(out, size);
-    put_ranks(out, 12, table.ranks());
-    put_finals(out, 18 + size.symbols, finals);
-    put_rules(out, rules_at, rules);
+    let mut pen = Pen::new(out);
+    put_size(&mut pen, size);
+    put_ranks(&mut pen, table.ranks());
+    put_finals(&mut pen, finals);
+    put_rules(&mut pen, rules);
     Ok(length)
 }

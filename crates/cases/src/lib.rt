@@ -1,15 +1,20 @@
 // What the programs of worked examples share: the cases of a reader and their fields, a checksum, and lines to a writer.
 #![tactic(auto)]
 
-ghost use Rattle.std.specs.Prelude.{◌≡◌, ◌≤◌, ◌<◌, ◌∷◌, ◌++◌, [], None, IfOk, IfSome, OnOk, EachIndex, length, slice_index, fold, take};
+ghost use Rattle.std.specs.Prelude.{◌≡◌, ℕ, List, ◌≤◌, ◌<◌, ◌∷◌, ◌++◌, [], None, IfOk, IfSome, OnOk, IsTrue, IsFalse, EachIndex, length, slice_index, fold, take};
 ghost use Rattle.std.specs.Io.KnownBytes.{Appends, Consumes, IsAtEnd};
+ghost use Rattle.cases.specs.Case.{IsNamed, IsLast};
 ghost use Rattle.cases.specs.Checksum.{more};
 ghost use Rattle.cases.specs.Field.{IsNumber, IsField, IsNoField};
 ghost use Rattle.cases.specs.Line.{spaced};
+ghost use Rattle.cases.specs.Run.{Runs};
 
 use std::fmt::Display;
 use std::io;
 use std::io::{Read, Write};
+
+// The most cases that `run` does.
+const CASES: u32 = 1000000;
 
 // Reads the cases of `input` one after the other. It writes the line that names a case and then calls `case`, until the input ends,
 // `case` returns false, or a million cases are done.
@@ -19,8 +24,9 @@ pub fn run<R: Read, W: Write, F: FnMut(&mut R, &mut W) -> io::Result<bool>>(
     mut case: F,
 ) -> io::Result<()>
     requires { F.IsAlwaysCallable case }
+    ensures { OnOk result (Runs R.remaining W.contents F.FnMut (record { input = input.old; out = out.old; case = case }) input.new out.new) }
 {
-    for _ in 0..1000000 {
+    for _ in 0..CASES {
         if !next_case(input, out)? || !case(input, out)? {
             break;
         }
@@ -29,13 +35,16 @@ pub fn run<R: Read, W: Write, F: FnMut(&mut R, &mut W) -> io::Result<bool>>(
 }
 
 // The next case's name, and the line that names it: false where the input has ended.
-pub fn next_case<R: Read, W: Write>(input: &mut R, out: &mut W) -> io::Result<bool> {
+pub fn next_case<R: Read, W: Write>(input: &mut R, out: &mut W) -> io::Result<bool>
+    ensures named { IfOk result (λ more. IsTrue more → (name : List ℕ) × IsNamed name (R.remaining input.old) (R.remaining input.new) (W.contents out.old) (W.contents out.new)) }
+    ensures last { IfOk result (λ more. IsFalse more → IsLast (R.remaining input.old) (R.remaining input.new) (W.contents out.old) (W.contents out.new)) }
+{
     let mut name = [0u8; 255];
-    let Some(length) = next_field(input, 1, &mut name)? else {
+    let Some(name) = next_field(input, 1, &mut name)? else {
         return Ok(false);
     };
     out.write_all(b"case ")?;
-    out.write_all(&name[..length])?;
+    out.write_all(name)?;
     out.write_all(b"\n")?;
     Ok(true)
 }
@@ -69,21 +78,27 @@ pub fn read_full<R: Read>(input: &mut R, buf: &mut [u8]) -> io::Result<usize>
     Ok(done)
 }
 
-// The next field of the input, a number of `width` bytes and then as many bytes, at the start of `buf`: its length, or none where the
-// input has ended or `buf` is too short.
-pub fn next_field<R: Read>(input: &mut R, width: usize, buf: &mut [u8]) -> io::Result<Option<usize>>
-    ensures bound { IfOk result (λ found. IfSome found (λ n. n ≤ length buf.new)) }
-    ensures field { IfOk result (λ found. IfSome found (IsField width (R.remaining input.old) (R.remaining input.new) buf.new)) }
+// The next field of the input, a number of `width` bytes and then as many bytes: these, as a part of `buf`, or none where the input has
+// ended or `buf` is too short.
+pub fn next_field<'a, R: Read>(
+    input: &mut R,
+    width: usize,
+    buf: &'a mut [u8],
+) -> io::Result<Option<&'a [u8]>>
+    ensures bound { IfOk result (λ found. IfSome found (λ part. length part.now ≤ length buf.old)) }
+    ensures field { IfOk result (λ found. IfSome found (λ part. IsField width (R.remaining input.old) (R.remaining input.new) part.now)) }
     ensures none { IfOk result (λ found. found ≡ None → width ≤ 4 → IsNoField width (R.remaining input.old) (R.remaining input.new) (length buf.old)) }
 {
     let Some(length) = number(input, width)? else {
         return Ok(None);
     };
-    let length = length as usize;
-    if length > buf.len() || read_full(input, &mut buf[..length])? < length {
+    let Some(part) = buf.get_mut(..length as usize) else {
+        return Ok(None);
+    };
+    if read_full(input, part)? < part.len() {
         return Ok(None);
     }
-    Ok(Some(length))
+    Ok(Some(part))
 }
 
 // The checksums are below this number, a prime.

@@ -16,15 +16,15 @@ fn main(rt: HostRuntime) -> io::Result<()> {
 // What follows a case's name: false where the input has ended.
 fn one<R: Read, W: Write>(input: &mut R, out: &mut W) -> io::Result<bool> {
     let mut table = [0u8; 65536];
-    let Some(table_length) = cases::next_field(input, 4, &mut table)? else {
+    let Some(table) = cases::next_field(input, 4, &mut table)? else {
         return Ok(false);
     };
     let mut tree = [0u8; 65536];
-    let Some(tree_length) = cases::next_field(input, 4, &mut tree)? else {
+    let Some(tree) = cases::next_field(input, 4, &mut tree)? else {
         return Ok(false);
     };
     let before = counts(input)?;
-    report(out, before, &table[..table_length], &tree[..tree_length])?;
+    report(out, before, table, tree)?;
     Ok(true)
 }
 

@@ -63,7 +63,7 @@ judging table numbers = exported 3 done size_numbers (sized (judge table)) numbe
 unfoldable pub counts_in : List ℕ → Counts
 counts_in counts = record { accepted = get_or counts 0 0; rejected = get_or counts 1 0; refused = get_or counts 2 0 }
 
-unfoldable pub counts_numbers : Counts → List ℕ
+abbrev pub counts_numbers : Counts → List ℕ
 counts_numbers c = c.accepted ∷ c.rejected ∷ c.refused ∷ []
 
 -- The array for the subtree that is named, afterwards: of a tree that is not accepted its top node and how many nodes it has.

@@ -4,7 +4,6 @@ ghost use Rattle.fensullay.specs.Exports as spec;
 
 use crate::numbers::{OK, SHORT_ARRAY, answer, put_all};
 use automaton::{Refusal, Size, judge};
-use records::put_bytes;
 use reduction::{Reduction, reduce};
 use reporting::report;
 
@@ -71,7 +70,7 @@ pub extern "C" fn fensullay_report(input: &[u8], out: &mut [u8], numbers: &mut [
     if out.len() < end {
         return u32::from(Refusal::ShortOutput);
     }
-    put_bytes(out, 0, &lines[..end]);
+    put_all(out, &lines[..end]);
     put_all(numbers, &[end]);
     OK
 }

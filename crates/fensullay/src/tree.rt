@@ -2,8 +2,15 @@
 ghost use Rattle.std.specs.Prelude.{◌≡◌};
 ghost use Rattle.fensullay.specs.Exports as spec;
 
-use crate::numbers::{NO, OK, SHORT_ARRAY, put_all, put_counts};
+use crate::numbers::{NO, OK, SHORT_ARRAY, put_all};
 use simulation::{Answer, Counts, Subtree, check};
+
+// The numbers of the counts: accepted, rejected, refused.
+fn counts_numbers(c: Counts) -> [u32; 3]
+    ensures { result ≡ spec.counts_numbers c }
+{
+    [c.accepted, c.rejected, c.refused]
+}
 
 // Checks a tree against a table: 0 accepted; 101 not accepted, and in `numbers` the subtree to look at, its top node and how many nodes it has; or the
 // refusal, 1 to 11. One more of that answer in `counts`, which are accepted, not accepted, refused. Or 100 where `counts` has fewer than 3, or
@@ -30,7 +37,7 @@ pub extern "C" fn fensullay_check(
         refused: counts[2],
     };
     let checked = check(old, table, tree);
-    put_counts(counts, checked.counts);
+    put_all(counts, &counts_numbers(checked.counts));
     match checked.answer {
         Ok(Answer::Accepted) => OK,
         Ok(Answer::Rejected(Subtree { node, size })) => {

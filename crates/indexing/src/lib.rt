@@ -5,5 +5,5 @@ mod index;
 mod key;
 
 // Exported for the crates above.
-pub use index::{FEW_INDEX, INDEX, index_rules, numbers_of};
+pub use index::Index;
 pub use key::{BySymbol, ByTarget, Key};

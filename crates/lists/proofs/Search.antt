@@ -1,13 +1,10 @@
 -- A search through a list (`any`), a test of all its elements (`all`) and membership as a test (`among`): what each says of the elements, and back;
 -- through other lists, by other tests, and from an index on as loops go. By induction on the list or on the membership.
 use Prim.Native.Nat.{ℕ, ◌+◌, ◌≤◌, ◌<◌}
-use native.Mathlib.Numerals.{add-one}
 use mathlib.Core.Path.{◌≡◌, refl, sym, ap₂, ap, ◌∙◌}
 use mathlib.Core.List.Memᴰ
 use mathlib.Core.List.{List, [], ◌∷◌, Memᴰ, ◌++◌, map}
 use mathlib.Core.Bool.{Bool, true, false, cond, false≢true, ◌&&◌, ◌||◌, and_assoc, or_assoc}
-use lib.ListN.{length, drop, get_or, drop_of_length-le}
-use lib.Seq.{drop-cons}
 use lib.Dec.{eqb}
 use borrow.Author.Tests.{eq-eqb, eqb-true}
 use mathlib.Core.Logic.{◌⊎◌, inl, inr}
@@ -121,20 +118,6 @@ pub any_listed : {A : Type 0} (test : A → Bool) (xs : List A) → list_any tes
 unfolding any
 any_listed test [] = refl
 any_listed test (x ∷ xs) = ap (λ (t : Bool). test x || t) (any_listed test xs)
-
--- A search from an index on: it ends at the first element that passes, goes on after one that fails, and has found none at the end.
-module _ (test : ℕ → Bool) (xs : List ℕ) (i : ℕ) where
-  pub any_stop : i < length xs → test (get_or xs i 0) ≡ true → any test (drop i xs) ≡ true
-  unfolding any
-  any_stop h e = rw (drop-cons xs i 0 h, e)
-
-  pub any_go_on : i < length xs → test (get_or xs i 0) ≡ false → any test (drop i xs) ≡ any test (drop (i + 1) xs)
-  unfolding any
-  any_go_on h e = rw (add-one, drop-cons xs i 0 h, e)
-
-  pub any_end : length xs ≤ i → any test (drop i xs) ≡ false
-  unfolding any
-  any_end h = rw (drop_of_length-le xs h)
 
 pub among_out : (xs : List ℕ) (q : ℕ) → among xs q ≡ true → Memᴰ q xs
 unfolding among

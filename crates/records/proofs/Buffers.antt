@@ -1,22 +1,18 @@
--- Fields and records written over a buffer; where there is room, and what a call that refuses leaves. From the laws of numbers written over an
+-- The bytes of a number and of some fields; where a buffer has room, and what a call that refuses leaves. From the laws of numbers written over an
 -- array; used by the code that writes fields, tables and relations.
-use Prim.Native.Nat.{ℕ, ◌+◌, ◌*◌, ◌/◌, ◌%◌, ◌≤◌, ◌<◌}
-use mathlib.Core.Path.{◌≡◌, refl, sym, ap, ◌∙◌}
+use Prim.Native.Nat.{ℕ, ◌/◌, ◌%◌, ◌≤◌, ◌<◌}
+use mathlib.Core.Path.{◌≡◌, refl, sym, ap}
 use mathlib.Core.List.{List, [], ◌∷◌, ◌++◌}
 use mathlib.Core.Bool.{Bool, true, false, cond}
-use native.Mathlib.Numerals.{add-one}
 use native.Mathlib.Omega.{arith}
-use lib.ListN.{length, get_or, take, drop}
-use lib.Seq.{take-suc, length-take-le}
+use lib.ListN.{length, drop}
 use borrow.Author.Tests.{le-leb, lt-leb}
 use lib.Dec.{leb}
 use Rattle.lists.specs.Over.{over}
-use Rattle.lists.proofs.Overwriting.{over_behind, over_over, over_then}
+use Rattle.lists.proofs.Overwriting.{over_behind}
 use Rattle.records.specs.Bytes.{bytes2, bytes4, fields}
-use Rattle.records.specs.Record.{encode_record}
 use Rattle.records.specs.Read.{found, refused, Read, ◌>>=◌, ◌>>◌}
 use Rattle.records.specs.Output.{written, written_over}
-use Rattle.records.proofs.Fields.{length_fields}
 use Rattle.records.proofs.Reading.{refused≢found}
 
 -- Where the reading refuses, an array is afterwards what it was.
@@ -44,7 +40,11 @@ unfolding ◌>>◌
 then_keeps (found a) b keeps cause e = absurd (refused≢found (sym e))
 then_keeps (refused first) b keeps cause e = keeps first refl
 
--- The four bytes of a number, each from the number itself.
+-- The bytes of a number, each from the number itself.
+pub bytes2_each : (v : ℕ) → bytes2 v ≡ (v % 256) ∷ (v / 256 % 256) ∷ []
+unfolding bytes2
+bytes2_each v = refl
+
 pub bytes4_each : (v : ℕ) → bytes4 v ≡ (v % 256) ∷ (v / 256 % 256) ∷ (v / 65536 % 256) ∷ (v / 16777216 % 256) ∷ []
 unfolding bytes4 bytes2
 bytes4_each v = ap (λ (last : ℕ). (v % 256) ∷ (v / 256 % 256) ∷ (v / 65536 % 256) ∷ last ∷ []) (omega arith)
@@ -54,26 +54,9 @@ unfolding fields bytes2
 fields_append [] vs = refl
 fields_append (u ∷ us) vs = ap (λ (l : List ℕ). bytes2 u ++ l) (fields_append us vs)
 
-fields_single : (v : ℕ) → fields (v ∷ []) ≡ bytes2 v
+pub fields_single : (v : ℕ) → fields (v ∷ []) ≡ bytes2 v
 unfolding fields bytes2
 fields_single v = refl
-
--- A turn of a loop that copies fields.
-pub over_field : (out : List ℕ) (at : ℕ) (src : List ℕ) (j : ℕ) → j < length src → at + 2 * j + 2 ≤ length out
-    → over (over out at (fields (take j src))) (at + 2 * j) (bytes2 (get_or src j 0)) ≡ over out at (fields (take (j + 1) src))
-unfolding bytes2
-over_field out at src j h l =
-    let place : length (fields (take j src)) ≡ 2 * j = rw (length_fields, length-take-le j src (omega arith)) in
-    over_over out at (fields (take j src)) (bytes2 (get_or src j 0)) (at + 2 * j) (omega arith) l
-    ∙ ap (over out at) (rw (add-one, take-suc src j 0 h, fields_append, fields_single))
-
--- A head and then a body.
-pub over_record : (out : List ℕ) (at kind size : ℕ) (now body next : List ℕ)
-    → now ≡ over out at (bytes4 (2 + size) ++ bytes2 kind) → next ≡ over now (at + 6) body
-    → size ≡ length body → at + 6 + size ≤ length out → next ≡ over out at (encode_record kind body)
-unfolding encode_record bytes4 bytes2
-over_record out at kind size now body next e f sized fits =
-    over_then out at _ now (at + 6) body next (rw sized at e) f (omega arith) (omega arith)
 
 pub room_enough : (bytes out : List ℕ) → length bytes ≤ length out
     → (written bytes out ≡ found (length bytes)) × (written_over bytes out ≡ over out 0 bytes)

@@ -5,3 +5,4 @@ pub mod Buffers
 pub mod Causes
 pub mod Opening
 pub mod Records
+pub mod Pens

@@ -5,3 +5,4 @@ pub mod Kind
 pub mod Answers
 pub mod Read
 pub mod Output
+pub mod Pen

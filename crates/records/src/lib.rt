@@ -14,4 +14,4 @@ pub use refusal::Refusal;
 // Exported for the crates above: these ask for numbers or arrays in range.
 pub use bytes::number2;
 pub use kind::Kind;
-pub use output::{put_bytes, put_fields, put_head, put2};
+pub use output::Pen;

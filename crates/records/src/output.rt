@@ -1,40 +1,68 @@
-// Fields and heads of records written into a lent buffer. Each function says which bytes stand where afterwards; the others stay.
+// What writes into a lent buffer. Each method says which bytes stand where afterwards; the others stay.
+#![tactic(auto, using(crate::proofs::Pens::by_pen))]
+
 ghost use Rattle.std.specs.Prelude.{◌≡◌, ◌++◌, ◌+◌, ◌*◌, ◌≤◌, length};
-ghost use Rattle.lists.specs.Over.{over};
 ghost use Rattle.records.specs.Bytes.{bytes2, bytes4, fields};
 
-// Two bytes from `at` on.
-pub fn put2(out: &mut [u8], at: usize, v: u16)
-    requires { at + 2 ≤ length out.old }
-    ensures { out.new ≡ over out.old at (bytes2 v) }
-{
-    put_bytes(out, at, &v.to_le_bytes());
+// A lent buffer, and the place in it where the next byte goes.
+#[derive(Drop)]
+pub struct Pen<'a> {
+    out: &'a mut [u8],
+    at: usize,
 }
 
-// The length and the kind of a record whose body has `size` bytes.
-pub fn put_head(out: &mut [u8], at: usize, kind: u16, size: usize)
-    requires at_in_bounds { at + 6 ≤ length out.old }
-    requires size_bound { size ≤ 65535 }
-    ensures { out.new ≡ over out.old at (bytes4 (2 + size) ++ bytes2 kind) }
-{
-    put_bytes(out, at, &(2 + size as u32).to_le_bytes());
-    put2(out, at + 4, kind);
-}
+impl<'a> Pen<'a> {
+    ghost use Rattle.records.specs.Pen.{pen_on, put_in, HasRoom};
 
-// The bytes of `src` as numbers, two bytes each.
-pub fn put_fields(out: &mut [u8], at: usize, src: &[u8])
-    requires { at + 2 * length src.now ≤ length out.old }
-    ensures { out.new ≡ over out.old at (fields src.now) }
-{
-    for (j, v) in src.iter().enumerate() {
-        put2(out, at + 2 * j, u16::from(*v));
+    // At the start of the buffer.
+    pub fn new(out: &'a mut [u8]) -> Pen<'a>
+        ensures { result ≡ pen_on out.entry }
+    {
+        Pen { out, at: 0 }
     }
-}
 
-// The bytes of `src`.
-pub fn put_bytes(out: &mut [u8], at: usize, src: &[u8])
-    requires { at + length src.now ≤ length out.old }
-    ensures { out.new ≡ over out.old at src.now }
-{
-    out[at..at + src.len()].copy_from_slice(src);
+    // The place: how many bytes stand before the next one.
+    pub fn place(&self) -> usize
+        ensures { result ≡ self.now.at }
+    {
+        self.at
+    }
+
+    // Some bytes.
+    pub fn put(&mut self, bytes: &[u8])
+        requires { HasRoom (length bytes.now) self.old }
+        ensures { self.new ≡ put_in bytes.now self.old }
+    {
+        let end = self.at + bytes.len();
+        self.out[self.at..end].copy_from_slice(bytes);
+        self.at = end;
+    }
+
+    // A number, in two bytes.
+    pub fn put2(&mut self, v: u16)
+        requires { HasRoom 2 self.old }
+        ensures { self.new ≡ put_in (bytes2 v) self.old }
+    {
+        self.put(&v.to_le_bytes());
+    }
+
+    // The length and the kind of a record whose body has `size` bytes.
+    pub fn put_head(&mut self, kind: u16, size: usize)
+        requires room { HasRoom 6 self.old }
+        requires size_bound { size ≤ 65535 }
+        ensures { self.new ≡ put_in (bytes4 (2 + size) ++ bytes2 kind) self.old }
+    {
+        self.put(&(2 + size as u32).to_le_bytes());
+        self.put2(kind);
+    }
+
+    // Some bytes as numbers, two bytes each.
+    pub fn put_fields(&mut self, numbers: &[u8])
+        requires { HasRoom (2 * length numbers.now) self.old }
+        ensures { self.new ≡ put_in (fields numbers.now) self.old }
+    {
+        for v in numbers {
+            self.put2(u16::from(*v));
+        }
+    }
 }

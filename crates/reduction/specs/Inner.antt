@@ -1,9 +1,9 @@
 -- What the contracts of inner functions cite; the call `reduce` cites none of it. Places that an array does not have, where
 -- `get_or` would give its default, are ruled out by the bounds in the contracts that cite these.
 use Rattle.std.specs.Prelude.{ℕ, ◌≤◌, ◌<◌, ◌≡◌, Bool, true, false, not, ◌&&◌, ◌||◌, length, get_or, ltb}
-use mathlib.Core.List.{List, Memᴰ}
+use mathlib.Core.List.{List, Memᴰ, map}
 use mathlib.Core.Logic.{◌⊎◌}
-use Rattle.lists.specs.Lists.{All, from, any, among}
+use Rattle.lists.specs.Lists.{All, from, keep, any, among}
 use Rattle.sets.specs.Set.{member}
 use Rattle.sets.specs.Inner.{states_in}
 use Rattle.automaton.specs.Automaton.{Rule}
@@ -29,16 +29,23 @@ name_in names q = get_or names q 0
 unfoldable pub marked : List Bool → ℕ → Bool
 marked marks i = get_or marks i false
 
--- Rule i goes because of rule j: that one is equal to it and stands before it; or dominates it.
-unfoldable pub repeats : Relation → List Rule → ℕ → ℕ → Bool
-repeats R rules i j = ltb j i && same_rule (rule_at rules j) (rule_at rules i)
+-- A rule u goes because of another, v: that one is equal to it and stands before it; or dominates it, wherever it stands.
+unfoldable pub repeats : Relation → Rule → Rule → Bool → Bool
+repeats R u v before = before && same_rule v u
 
-unfoldable pub dominates : Relation → List Rule → ℕ → ℕ → Bool
-dominates R rules i j = dominated_by R (rule_at rules i) (rule_at rules j)
+unfoldable pub dominates : Relation → Rule → Rule → Bool → Bool
+dominates R u v before = dominated_by R u v
 
--- Rule i goes because of none of the rules.
-unfoldable pub stays : (Relation → List Rule → ℕ → ℕ → Bool) → Relation → List Rule → ℕ → Bool
-stays goes_for R rules i = not (any (goes_for R rules i) (from 0 (length rules)))
+-- Rule i goes because of rule j; it stays if it goes because of none.
+unfoldable pub goes_at : (Relation → Rule → Rule → Bool → Bool) → Relation → List Rule → ℕ → ℕ → Bool
+goes_at goes_for R rules i j = goes_for R (rule_at rules i) (rule_at rules j) (ltb j i)
+
+unfoldable pub stays : (Relation → Rule → Rule → Bool → Bool) → Relation → List Rule → ℕ → Bool
+stays goes_for R rules i = not (any (goes_at goes_for R rules i) (from 0 (length rules)))
+
+-- The rules that stay, in order.
+unfoldable pub staying : (Relation → Rule → Rule → Bool → Bool) → Relation → List Rule → List Rule
+staying goes_for R rules = map (rule_at rules) (keep (stays goes_for R rules) (from 0 (length rules)))
 
 -- A state that is final, or that a rule adds to those found before: up, without final states, the test `buildable`; down the test `needed`.
 unfoldable pub grows : ((ℕ → Bool) → Rule → ℕ → Bool) → Stage → List ℕ → ℕ → Bool

@@ -3,15 +3,13 @@ use Prim.Native.Nat.{ℕ}
 use mathlib.Core.Path.{◌≡◌, sym, ap}
 use mathlib.Core.Logic.{inl, inr}
 use mathlib.Core.Bool.{Bool, true, ◌&&◌}
-use mathlib.Core.List.{List}
-use lib.Dec.{eqb, ltb}
+use lib.Dec.{eqb}
 use borrow.Author.Tests.{eqb-true}
 use Rattle.lists.specs.Lists.{all, among}
 use Rattle.lists.proofs.Booleans.{and_true_in, and_true_out}
 use Rattle.lists.proofs.Elements.{all_member}
 use Rattle.lists.proofs.Search.{all_in, all_out, among_out}
 use Rattle.automaton.specs.Automaton.{Rule}
-use Rattle.automaton.specs.Row.{rule_at}
 use Rattle.refinement.specs.Simulation.{Relation}
 use Rattle.stages.specs.Steps.{same_rule, dominated_by}
 use Rattle.stages.proofs.SameRules.{same_rule_out}
@@ -33,16 +31,10 @@ down_adding = record {
   named = λ s u q h. inr (among_out u.children q (and_true_out (s u.target) (among u.children q) h).1);
 }
 
-pub repeats_same_target : (R : Relation) (rules : List Rule) (i j : ℕ) → repeats R rules i j ≡ true
-    → (rule_at rules j).target ≡ (rule_at rules i).target
+pub repeats_same_target : (R : Relation) (u v : Rule) (before : Bool) → repeats R u v before ≡ true → v.target ≡ u.target
 unfolding repeats
-repeats_same_target R rules i j h =
-    ap (λ (u : Rule). u.target) (same_rule_out _ _ (and_true_out (ltb j i) (same_rule (rule_at rules j) (rule_at rules i)) h).1)
+repeats_same_target R u v before h = ap (λ (w : Rule). w.target) (same_rule_out _ _ (and_true_out before (same_rule v u) h).1)
 
-pub dominates_same_target : (R : Relation) (rules : List Rule) (i j : ℕ) → dominates R rules i j ≡ true
-    → (rule_at rules j).target ≡ (rule_at rules i).target
+pub dominates_same_target : (R : Relation) (u v : Rule) (before : Bool) → dominates R u v before ≡ true → v.target ≡ u.target
 unfolding dominates dominated_by
-dominates_same_target R rules i j h =
-    let u = rule_at rules i in
-    let v = rule_at rules j in
-    sym (eqb-true u.target v.target (and_true_out (eqb u.target v.target) _ h).0)
+dominates_same_target R u v before h = sym (eqb-true u.target v.target (and_true_out (eqb u.target v.target) _ h).0)

@@ -3,7 +3,6 @@ ghost use Rattle.std.specs.Prelude.{◌≡◌, true, ℕ, ◌≤◌, ◌<◌, eq
 ghost use Rattle.lists.specs.Lists.{from, any};
 ghost use Rattle.sets.specs.Set.{member};
 ghost use Rattle.sets.specs.Inner.{states_in, Has};
-ghost use Rattle.refinement.specs.Inner.{relation_in};
 ghost use Rattle.stages.specs.Steps.{equivalent, first_of, position};
 ghost use Rattle.reduction.specs.Inner.{name_in};
 
@@ -13,8 +12,8 @@ use sets::StateSet;
 // The smallest state that is equivalent to q; q itself where none below it is.
 fn representative(relation: &Relation, q: u8) -> u8
     ensures upper_bound { result ≤ q }
-    ensures value { equivalent (relation_in relation.now.rows) q q ≡ true
-        → result ≡ first_of (equivalent (relation_in relation.now.rows) q) (from 0 256) }
+    ensures value { equivalent relation.now q q ≡ true
+        → result ≡ first_of (equivalent relation.now q) (from 0 256) }
 {
     (0..q)
         .find(|r| relation.has(q, *r) && relation.has(*r, q))
@@ -24,8 +23,8 @@ fn representative(relation: &Relation, q: u8) -> u8
 // Names each state of a set after its representative.
 pub fn name_blocks(relation: &Relation, states: StateSet) -> [u8; 256]
     ensures low { (q : ℕ) → q < 256 → name_in result q ≤ q }
-    ensures named { (q : ℕ) → q < 256 → member states.words q ≡ true → equivalent (relation_in relation.now.rows) q q ≡ true
-        → name_in result q ≡ first_of (equivalent (relation_in relation.now.rows) q) (from 0 256) }
+    ensures named { (q : ℕ) → q < 256 → member states.words q ≡ true → equivalent relation.now q q ≡ true
+        → name_in result q ≡ first_of (equivalent relation.now q) (from 0 256) }
 {
     let mut names = [0; 256];
     for q in states.states() {
@@ -53,7 +52,7 @@ pub fn rename_set(states: StateSet, names: &[u8; 256]) -> StateSet
 {
     let mut renamed = StateSet::empty();
     for q in states.states() {
-        renamed = renamed.with(names[usize::from(q)]);
+        renamed.insert(names[usize::from(q)]);
     }
     renamed
 }

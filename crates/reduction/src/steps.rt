@@ -5,15 +5,15 @@ ghost use Rattle.lists.specs.Lists.{keep};
 ghost use Rattle.sets.specs.Inner.{states_in};
 ghost use Rattle.automaton.specs.Automaton.{WellFormed};
 ghost use Rattle.automaton.specs.Row.{rules_of};
-ghost use Rattle.refinement.specs.Inner.{relation_in, Simulable};
+ghost use Rattle.refinement.specs.Inner.{Simulable};
 ghost use Rattle.stages.specs.Steps.{names_only, trimmed, below, rounds_in, quotient, pruned, restricted, numbered, reduce, reduction_rounds};
 
 use crate::blocks::{name_blocks, number_states, rename_set};
 use crate::growth::{Down, Up, grow};
-use crate::marking::{Dominated, Repeated, mark_staying};
+use crate::marking::{Dominated, Repeated, keep_staying};
 use crate::rows::{rename_rules, retain};
-use automaton::{Row, Table};
-use indexing::{ByTarget, INDEX, index_rules};
+use automaton::{RULES, Row, Table};
+use indexing::{ByTarget, Index};
 use refinement::{Relation, simulate};
 use sets::StateSet;
 use std::marker::Model;
@@ -49,11 +49,10 @@ fn keep_named<'r>(states: StateSet, finals: StateSet, rules: &'r mut [Row]) -> W
     } }
 {
     let is_named = |_, rule: &Row| states.has(rule.target()) && states.has_all(rule.children());
-    let count = retain(rules, is_named);
     Work {
         states,
         finals,
-        rules: &mut rules[..count],
+        rules: retain(rules, is_named),
     }
 }
 
@@ -70,16 +69,16 @@ fn trim<'t, 'r>(table: Table<'t, 'r>) -> Work<'r>
 fn simulate_left(work: &Work, relation: &mut Relation) -> usize
     requires { Simulable work.now.rules work.now.states }
     ensures value { result ≡ rounds_in work.now }
-    ensures relation_after { relation_in relation.new.rows ≡ below work.now }
+    ensures relation_after { relation.new ≡ below work.now }
 {
-    let mut index = [0; INDEX];
-    index_rules::<ByTarget>(work.rules, 256, &mut index);
-    simulate(work.states, 256, work.rules, &index, relation)
+    let mut index = Index::<RULES>::empty();
+    index.fill::<ByTarget>(work.rules);
+    simulate(work.states, work.rules, &index, relation)
 }
 
 // Step 3: groups equivalent states under their representatives; of equal rules the first stays.
 fn group<'r>(work: Work<'r>, relation: &Relation) -> Work<'r>
-    requires { relation_in relation.now.rows ≡ below work }
+    requires { relation.now ≡ below work }
     ensures { result ≡ quotient (below work.entry) work.entry }
 {
     let Work {
@@ -89,32 +88,26 @@ fn group<'r>(work: Work<'r>, relation: &Relation) -> Work<'r>
     } = work;
     let names = name_blocks(relation, states);
     rename_rules(rules, &names);
-    let mut marks = [false; 1024];
-    mark_staying::<Repeated>(relation, rules, 256, &mut marks);
-    let count = retain(rules, |i, _| marks[i]);
     Work {
         states: rename_set(states, &names),
         finals: rename_set(finals, &names),
-        rules: &mut rules[..count],
+        rules: keep_staying::<Repeated>(relation, rules),
     }
 }
 
 // Step 4: drops together all dominated rules.
 fn prune<'r>(work: Work<'r>, relation: &Relation) -> Work<'r>
-    ensures { result ≡ pruned (relation_in relation.now.rows) work.entry }
+    ensures { result ≡ pruned relation.now work.entry }
 {
     let Work {
         states,
         finals,
         rules,
     } = work;
-    let mut marks = [false; 1024];
-    mark_staying::<Dominated>(relation, rules, 256, &mut marks);
-    let count = retain(rules, |i, _| marks[i]);
     Work {
         states,
         finals,
-        rules: &mut rules[..count],
+        rules: keep_staying::<Dominated>(relation, rules),
     }
 }
 
@@ -139,12 +132,7 @@ fn number<'t, 'r>(work: Work<'r>, ranks: &'t [u8]) -> Table<'t, 'r>
     } = work;
     let names = number_states(states);
     rename_rules(rules, &names);
-    Table {
-        states: states.len(),
-        ranks,
-        finals: rename_set(finals, &names),
-        rules,
-    }
+    Table::new(states.len(), ranks, rename_set(finals, &names), rules)
 }
 
 // A reduced table, and the rounds of step 2.

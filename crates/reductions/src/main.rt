@@ -20,13 +20,13 @@ fn main(rt: HostRuntime) -> io::Result<()> {
 // What follows a case's name: false where the input has ended, or the room is more than any case has.
 fn one<R: Read, W: Write>(input: &mut R, out: &mut W) -> io::Result<bool> {
     let mut table = [0u8; 65536];
-    let Some(length) = cases::next_field(input, 4, &mut table)? else {
+    let Some(table) = cases::next_field(input, 4, &mut table)? else {
         return Ok(false);
     };
     let Some(room) = cases::number(input, 4)? else {
         return Ok(false);
     };
-    with_room(out, &table[..length], room as usize)
+    with_room(out, table, room as usize)
 }
 
 // Reduces a table with some room, and the reduced table again, and reports on the table: false where the room is more than any case has.

@@ -2,15 +2,14 @@
 use Prim.Native.Nat.{ℕ, ◌<◌}
 use mathlib.Core.Path.{◌≡◌, refl, sym, ap, ◌∙◌}
 use mathlib.Core.List.{List, [], ◌∷◌, ◌++◌, map, Memᴰ}
-use mathlib.Core.Bool.{Bool, true, false, cond, ◌&&◌, false≢true}
-use native.Mathlib.Decide.{dec_lt}
+use mathlib.Core.Bool.{Bool, true, false, cond, ◌&&◌}
 use native.Mathlib.Omega.{arith}
 use Rattle.lists.specs.Lists.{from, keep}
 use Rattle.lists.proofs.Keeping.{keep_append, keep_map, keep_both, keep_agree, keep_none}
 use Rattle.lists.proofs.Ranges.{from_member, member_from}
 use Rattle.sets.specs.Set.{member, empty_set}
 use Rattle.sets.specs.Entries.{entry_at}
-use Rattle.sets.specs.Inner.{states_in, Has, Below}
+use Rattle.sets.specs.Inner.{states_in, Has}
 use Rattle.sets.specs.declared.set.StateSet.{StateSet}
 use Rattle.sets.proofs.StateSets.{member_empty}
 use Rattle.automaton.specs.Automaton.{Rule}
@@ -33,11 +32,6 @@ keep_all_pairs f g (q ∷ qs) rs = rw (keep_append, keep_map, ← keep_all_pairs
         ≡ map (λ (r : ℕ). (q, r)) (keep (λ (r : ℕ). t && g r) rs) ++ all_pairs (keep f qs) (keep g rs)
     go true = refl
     go false = rw (none rs)
-
--- A state of a set whose states are below n.
-pub below_low : {n : ℕ} (set : List ℕ) → Below n set → (q : ℕ) → q < 256 → member set q ≡ true → q < n
-unfolding Below
-below_low {n} set low q h is = elim (dec_lt q n) [ yes l ↦ l | no l ↦ absurd (false≢true (sym (low q (omega arith) h) ∙ is)) ]
 
 -- The relation in some rows.
 

@@ -1,25 +1,18 @@
 -- What the contracts of matching, of the rounds and of the crates above cite of them; no call for everybody cites any of it. Places that an
 -- array does not have, where `get_or` would give its default, are ruled out by the bounds in the contracts that cite these.
-use Rattle.std.specs.Prelude.{ℕ, ◌≤◌, ◌<◌, ◌≡◌, Bool, true, false, not, ◌&&◌, ◌||◌, length, eqb}
+use Rattle.std.specs.Prelude.{ℕ, ◌<◌, ◌≡◌, Bool, true, false, not, ◌&&◌, ◌||◌, length, eqb}
 use mathlib.Core.List.{List, Memᴰ}
 use Rattle.lists.specs.Lists.{from, keep, any, all}
 use Rattle.sets.specs.Set.{member}
 use Rattle.sets.specs.Entries.{entry_at}
-use Rattle.sets.specs.Inner.{Below, Has}
+use Rattle.sets.specs.Inner.{Has}
 use Rattle.sets.specs.declared.set.StateSet.{StateSet}
 use Rattle.automaton.specs.Automaton.{Rule}
-use Rattle.indexing.specs.Index.{Indexes}
 use Rattle.refinement.specs.Simulation.{Relation, related, matched, all_pairs}
 
 -- The relation that 256 rows hold: row q is the set of the states that q is related to.
 unfoldable pub relation_in : List StateSet → Relation
 relation_in rows = keep (λ (p : ℕ × ℕ). member (entry_at rows p.0) p.1) (all_pairs (from 0 256) (from 0 256))
-
--- The rules that answer in a round, and their index by target, of which there are n.
-pub record Answering (rules : List Rule) (n : ℕ) (index : List ℕ) : Type 0 where
-  pub states : n ≤ 256
-  pub count : length rules ≤ 1024
-  pub index_is : Indexes (λ (u : Rule). u.target) rules n index
 
 -- What a relation on some states is computed of: rules that name these states alone, where rules of one symbol have equally many children.
 pub record Simulable (rules : List Rule) (states : List ℕ) : Type 0 where
@@ -47,27 +40,19 @@ unfoldable pub Quiet : List Rule → List Rule → Relation → (Rule → Bool) 
 Quiet rules others R touched =
     (u : Rule) → Memᴰ u rules → touched u ≡ false → (r : ℕ) → related R u.target r ≡ true → matched others R r u ≡ true
 
--- No state is related to one from n on.
-unfoldable pub RowsBelow : ℕ → List StateSet → Type 0
-RowsBelow n rows = (q : ℕ) → q < 256 → Below n (entry_at rows q)
+-- For the states of a set the rows of a relation.
+unfoldable pub Copied : List ℕ → Relation → List StateSet → Type 0
+Copied states R next = (q : ℕ) → q < 256 → member states q ≡ true → Has (entry_at next q) (related R q)
 
--- The rows of the states of a set, one copy in each of two arrays.
-unfoldable pub Copied : List ℕ → List StateSet → List StateSet → Type 0
-Copied states rows next = (q : ℕ) → q < 256 → member states q ≡ true → entry_at next q ≡ entry_at rows q
-
--- What a round works on: rules that ask for matches, with targets in a set of states; others that answer, with an index by target, of which
--- there are m; and a relation to states below m alone, with a copy of the rows of the states in the set.
-pub record Roundable (states : List ℕ) (m : ℕ) (rows next : List StateSet) (rules others : List Rule) (index : List ℕ) : Type 0 where
+-- What a round works on: rules that ask for matches, with targets in a set of states; and a copy of a relation's rows of the states in the set.
+pub record Roundable (states : List ℕ) (R : Relation) (next : List StateSet) (rules : List Rule) : Type 0 where
   pub targets : (u : Rule) → Memᴰ u rules → (u.target < 256) × (member states u.target ≡ true)
-  pub answering : Answering others m index
-  pub copied : Copied states rows next
-  pub low : RowsBelow m rows
+  pub copied : Copied states R next
 
 -- What a round leaves: the next relation's rows of the states in a set, where of the states of the last one's those stay that pass a test,
 -- and the set of the states whose rows lost one; the other rows are the last one's.
-pub record Rounded (states : List ℕ) (stays : ℕ → ℕ → Bool) (rows next : List StateSet) (lost : List ℕ) : Type 0 where
-  pub next_rows : (q : ℕ) → q < 256 → member states q ≡ true
-      → Has (entry_at next q) (λ (r : ℕ). member (entry_at rows q) r && stays q r)
-  pub same : (q : ℕ) → q < 256 → member states q ≡ true → member lost q ≡ false → entry_at next q ≡ entry_at rows q
+pub record Rounded (states : List ℕ) (stays : ℕ → ℕ → Bool) (R : Relation) (next : List StateSet) (lost : List ℕ) : Type 0 where
+  pub next_rows : (q : ℕ) → q < 256 → member states q ≡ true → Has (entry_at next q) (λ (r : ℕ). related R q r && stays q r)
+  pub same : (q : ℕ) → q < 256 → member states q ≡ true → member lost q ≡ false → Has (entry_at next q) (related R q)
   pub fewer : (q : ℕ) → q < 256 → member lost q ≡ true → (member states q ≡ true)
-      × (((r : ℕ) → r < 256 → member (entry_at rows q) r ≡ true → member (entry_at next q) r ≡ true) → ⊥)
+      × (((r : ℕ) → r < 256 → related R q r ≡ true → member (entry_at next q) r ≡ true) → ⊥)

@@ -7,41 +7,57 @@ ghost use Rattle.refinement.specs.Inner.{relation_in};
 
 use automaton::Row;
 use sets::StateSet;
+use std::marker::Model;
 
-// A relation of states: row q is the set of the states that q is related to.
-#[derive(Clone, Copy)]
+// A relation of states: row q is the set of the states that q is related to. Contracts see its pairs.
+#[derive(Drop)]
 pub struct Relation {
-    pub rows: [StateSet; 256],
+    pub(crate) rows: [StateSet; 256],
+}
+
+impl Model for Relation {
+    ghost use Rattle.refinement.specs.Simulation.{Relation};
+    ghost use Rattle.refinement.specs.Inner.{relation_in};
+
+    ghost Value = { Relation };
+
+    ghost view = { λ r. relation_in r.rows };
 }
 
 impl Relation {
     // No pair.
     pub fn empty() -> Self
-        ensures { relation_in result.rows ≡ [] }
+        ensures { result ≡ [] }
     {
         Relation {
             rows: [StateSet::empty(); 256],
         }
     }
 
+    // Its rows.
+    pub fn rows(&self) -> &[StateSet; 256]
+        ensures { relation_in result.now ≡ self.now }
+    {
+        &self.rows
+    }
+
     // Whether q is related to r.
     pub fn has(&self, q: u8, r: u8) -> bool
-        ensures { result ≡ simulation.related (relation_in self.now.rows) q r }
+        ensures { result ≡ simulation.related self.now q r }
     {
         self.rows[usize::from(q)].has(r)
     }
 
     // Whether some states are related to others, position by position.
     pub fn pairs(&self, qs: &[u8], rs: &[u8]) -> bool
-        ensures { result ≡ simulation.paired (relation_in self.now.rows) qs.now rs.now }
+        ensures { result ≡ simulation.paired self.now qs.now rs.now }
     {
         qs.len() == rs.len() && qs.iter().zip(rs).all(|(q, r)| self.has(*q, *r))
     }
 
     // Whether a rule is matched by another.
     pub fn matches(&self, rule: &Row, other: &Row) -> bool
-        ensures { result ≡ simulation.matched_by (relation_in self.now.rows)
-            (rule_of rule.now) (rule_of other.now) }
+        ensures { result ≡ simulation.matched_by self.now (rule_of rule.now) (rule_of other.now) }
     {
         rule.symbol() == other.symbol() && self.pairs(rule.children(), other.children())
     }
@@ -49,14 +65,11 @@ impl Relation {
     // Whether a rule is matched by one of some others, by their numbers.
     pub fn has_match(&self, rule: &Row, others: &[Row], numbers: &[u16]) -> bool
         requires { All (λ (j : ℕ). j < length others.now) numbers.now }
-        ensures { result ≡ any (λ (j : ℕ). simulation.matched_by (relation_in self.now.rows)
+        ensures { result ≡ any (λ (j : ℕ). simulation.matched_by self.now
             (rule_of rule.now) (rule_at (rules_of others.now) j)) numbers.now }
     {
-        for j in numbers {
-            if self.matches(rule, &others[usize::from(*j)]) {
-                return true;
-            }
-        }
-        false
+        numbers
+            .iter()
+            .any(|j| self.matches(rule, &others[usize::from(*j)]))
     }
 }

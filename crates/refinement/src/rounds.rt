@@ -3,16 +3,17 @@
 ghost use Rattle.std.specs.Prelude.{◌≡◌, true, false, not, ◌&&◌, ◌||◌, ℕ, ◌≤◌, ◌<◌, List, length, eqb};
 ghost use Rattle.lists.specs.Lists.{all};
 ghost use Rattle.sets.specs.Set.{member, empty_set, same_set};
-ghost use Rattle.sets.specs.Inner.{states_in, Has, Below};
+ghost use Rattle.sets.specs.Inner.{states_in, Has};
 ghost use Rattle.sets.specs.Entries.{entry_at};
 ghost use Rattle.automaton.specs.Automaton.{Rule};
 ghost use Rattle.automaton.specs.Row.{rule_of, rules_of};
 ghost use Rattle.refinement.specs.Simulation as simulation;
-ghost use Rattle.refinement.specs.Inner.{relation_in, Answering, Simulable, Copied, is_target, answers, touches, Quiet, Roundable, Rounded};
+ghost use Rattle.indexing.specs.Index.{Indexes};
+ghost use Rattle.refinement.specs.Inner.{relation_in, Simulable, Copied, is_target, answers, touches, Quiet, Roundable, Rounded};
 
 use crate::matching::Relation;
 use automaton::Row;
-use indexing::numbers_of;
+use indexing::Index;
 use sets::StateSet;
 
 // For each symbol the set of the targets of its rules, over sets that are empty.
@@ -50,7 +51,7 @@ fn first_round(rules: &[Row], holders: &[StateSet; 256], rows: &mut [StateSet; 2
 
 // Copies the rows of some states; returns those of them whose row is not all of them.
 fn copy_rows(states: StateSet, rows: &[StateSet; 256], next: &mut [StateSet; 256]) -> StateSet
-    ensures copied { Copied states.words rows.now next.new }
+    ensures copied { Copied states.words (relation_in rows.now) next.new }
     ensures has { Has result.words (λ (q : ℕ). member states.words q
         && not (same_set (entry_at rows.now q) states.words)) }
 {
@@ -66,15 +67,20 @@ fn copy_rows(states: StateSet, rows: &[StateSet; 256], next: &mut [StateSet; 256
 }
 
 // A row without the states that have no rule that matches this one.
-fn narrow(row: StateSet, relation: &Relation, rule: &Row, others: &[Row], index: &[u16]) -> StateSet
-    requires { (n : ℕ) × (Answering (rules_of others.now) n index.now × Below n row.words) }
-    ensures { (n : ℕ) → Answering (rules_of others.now) n index.now → Below n row.words
-        → Has result.words (λ (r : ℕ). member row.words r
-        && simulation.matched (rules_of others.now) (relation_in relation.now.rows) r (rule_of rule.now)) }
+fn narrow<const R: usize>(
+    row: StateSet,
+    relation: &Relation,
+    rule: &Row,
+    others: &[Row],
+    index: &Index<R>,
+) -> StateSet
+    requires { Indexes (λ (u : Rule). u.target) (rules_of others.now) index.now }
+    ensures { Has result.words (λ (r : ℕ). member row.words r
+        && simulation.matched (rules_of others.now) relation.now r (rule_of rule.now)) }
 {
     let mut narrowed = row;
     for r in row.states() {
-        if !relation.has_match(rule, others, numbers_of(index, usize::from(r))) {
+        if !relation.has_match(rule, others, index.numbers(r)) {
             narrowed.remove(r);
         }
     }
@@ -83,20 +89,18 @@ fn narrow(row: StateSet, relation: &Relation, rule: &Row, others: &[Row], index:
 
 // A round: narrows the next relation's rows, which are the last one's, by those of the rules that have a child whose row changed in the round
 // before; returns the states whose rows change.
-fn round(
+fn round<const R: usize>(
     changed: StateSet,
     relation: &Relation,
     next: &mut [StateSet; 256],
     rules: &[Row],
     others: &[Row],
-    index: &[u16],
+    index: &Index<R>,
 ) -> StateSet
-    requires { (states : List ℕ) × ((m : ℕ) × Roundable states m relation.now.rows next.old (rules_of rules.now) (rules_of others.now) index.now) }
-    ensures { (states : List ℕ) → (m : ℕ) → Roundable states m relation.now.rows next.old (rules_of rules.now) (rules_of others.now) index.now
-        → Quiet (rules_of rules.now) (rules_of others.now)
-        (relation_in relation.now.rows) (touches changed.words)
-        → Rounded states (answers (rules_of rules.now) (rules_of others.now) (relation_in relation.now.rows))
-        relation.now.rows next.new result.words }
+    requires { Indexes (λ (u : Rule). u.target) (rules_of others.now) index.now }
+    ensures { (states : List ℕ) → Roundable states relation.now next.old (rules_of rules.now)
+        → Quiet (rules_of rules.now) (rules_of others.now) relation.now (touches changed.words)
+        → Rounded states (answers (rules_of rules.now) (rules_of others.now) relation.now) relation.now next.new result.words }
 {
     let mut lost = StateSet::empty();
     for rule in rules {
@@ -124,26 +128,23 @@ fn put_back(changed: StateSet, next: &[StateSet; 256], rows: &mut [StateSet; 256
     }
 }
 
-// The largest downward simulation of decoded rules on the states below n that are in a set, with an index of the rules by target; returns its
-// rounds.
-pub fn simulate(
+// The largest downward simulation of decoded rules on the states of a set, with an index of the rules by target; returns its rounds.
+pub fn simulate<const R: usize>(
     states: StateSet,
-    n: usize,
     rules: &[Row],
-    index: &[u16],
+    index: &Index<R>,
     relation: &mut Relation,
 ) -> usize
-    requires answering { Answering (rules_of rules.now) n index.now }
-    requires simulable { Simulable (rules_of rules.now) (states_in n states.words) }
-    ensures value { result ≡ simulation.rounds (rules_of rules.now) (states_in n states.words) }
-    ensures relation_after { relation_in relation.new.rows ≡ simulation.relation (rules_of rules.now) (states_in n states.words) }
+    requires indexed { Indexes (λ (u : Rule). u.target) (rules_of rules.now) index.now }
+    requires simulable { Simulable (rules_of rules.now) (states_in 256 states.words) }
+    ensures value { result ≡ simulation.rounds (rules_of rules.now) (states_in 256 states.words) }
+    ensures relation_after { relation.new ≡ simulation.relation (rules_of rules.now) (states_in 256 states.words) }
 {
-    let all = states.meet(StateSet::below(n));
     let mut next = [StateSet::empty(); 256];
     hold_targets(rules, &mut next);
-    start(all, &mut relation.rows);
+    start(states, &mut relation.rows);
     first_round(rules, &next, &mut relation.rows);
-    let mut changed = copy_rows(all, &relation.rows, &mut next);
+    let mut changed = copy_rows(states, &relation.rows, &mut next);
     let mut rounds = 0;
     while !changed.is_empty() {
         changed = round(changed, relation, &mut next, rules, rules, index);

@@ -19,18 +19,17 @@ fn main(rt: HostRuntime) -> io::Result<()> {
 // What follows a case's name: false where the input has ended.
 fn one<R: Read, W: Write>(input: &mut R, out: &mut W) -> io::Result<bool> {
     let mut table = [0u8; 65536];
-    let Some(length) = cases::next_field(input, 4, &mut table)? else {
+    let Some(table) = cases::next_field(input, 4, &mut table)? else {
         return Ok(false);
     };
-    let t = &table[..length];
     let Some(room) = cases::number(input, 4)? else {
         return Ok(false);
     };
-    relation(out, t, room as usize)?;
+    relation(out, table, room as usize)?;
     let Some(pairs) = cases::number(input, 2)? else {
         return Ok(false);
     };
-    compare_all(input, out, t, pairs)?;
+    compare_all(input, out, table, pairs)?;
     Ok(true)
 }
 

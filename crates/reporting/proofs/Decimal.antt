@@ -1,14 +1,15 @@
--- Decimal numbers: a number's last digit is its remainder by 10, and the digits before it are those of its tenth part. For `Text` and the
--- theorem on numerals.
+-- Decimal numbers: a number's last digit is its remainder by 10, and the digits before it are those of its tenth part. For `put_digits`, `Text` and
+-- the theorem on numerals.
 use Prim.Native.Nat.{ℕ, zero, suc, ◌+◌, ◌-◌, ◌*◌, ◌/◌, ◌%◌, ◌^◌, ◌≤◌, ◌<◌}
-use native.Mathlib.Nat.{pow-succ', one-le-pow}
+use native.Mathlib.Nat.{pow-succ'}
+use native.Mathlib.Decide.{dec_le}
 use native.Mathlib.Omega.{arith}
-use mathlib.Core.Path.{◌≡◌, refl}
+use mathlib.Core.Path.{◌≡◌, refl, ap}
 use mathlib.Core.List.{List, [], ◌∷◌, ◌++◌}
 use mathlib.Core.Bool.{Bool, true, false, cond}
 use lib.ListN.{length, length-append}
 use lib.Dec.{ltb}
-use borrow.Author.Tests.{ltb-true, ltb-false}
+use borrow.Author.Tests.{ltb-true, ltb-false, lt-ltb, le-ltb}
 use Rattle.lists.specs.Lists.{All, none, also}
 use Rattle.reporting.specs.Report.{decimal_in, decimal, value_from, value, Numeral}
 
@@ -58,52 +59,38 @@ decimal_numeral = decimal_induction Numeral one more
       leading = λ rest e. let zero : d ∷ ds ≡ 48 ∷ ds = cc in absurd (omega (arith, (n.leading ds zero).0));
     }
 
--- The last digits of a number, as a loop writes them from the end; all of them are its decimal.
-unfoldable pub last_digits : ℕ → ℕ → List ℕ
-last_digits zero v = []
-last_digits (suc n) v = last_digits n (v / 10) ++ ((48 + v % 10) ∷ [])
+-- One digit, and the digits before the last.
 
-pub decimal_last : (v : ℕ) → decimal v ≡ last_digits (length (decimal v)) v
-unfolding last_digits
-decimal_last =
-    decimal_induction (λ (v : ℕ) (ds : List ℕ). ds ≡ last_digits (length ds) v)
-    (λ v h. let same : v % 10 ≡ v = omega arith in rw same)
-    (λ v ds h e.
-    let next : length (ds ++ ((48 + v % 10) ∷ [])) ≡ suc (length ds) = rw length-append (omega arith) in rw (next, ← e))
+enough_digits : (n m v : ℕ) → v < n → v < m → decimal_in n v ≡ decimal_in m v
+unfolding decimal_in
+enough_digits zero m v h l = absurd (omega arith)
+enough_digits (suc n) zero v h l = absurd (omega arith)
+enough_digits (suc n) (suc m) v h l = test (ltb v 10) refl (λ (more : 10 ≤ v). enough_digits n m (v / 10) (omega arith) (omega arith))
+  where
+    test : (t : Bool) → ltb v 10 ≡ t → (10 ≤ v → decimal_in n (v / 10) ≡ decimal_in m (v / 10))
+        → cond t ((48 + v) ∷ []) (decimal_in n (v / 10) ++ ((48 + v % 10) ∷ []))
+        ≡ cond t ((48 + v) ∷ []) (decimal_in m (v / 10) ++ ((48 + v % 10) ∷ []))
+    test true e rest = refl
+    test false e rest = ap (λ (ds : List ℕ). ds ++ ((48 + v % 10) ∷ [])) (rest (ltb-false v 10 e))
+
+pub decimal_one : (v : ℕ) → v < 10 → decimal v ≡ (48 + v % 10) ∷ []
+unfolding decimal decimal_in
+decimal_one v h = let digit : v % 10 ≡ v = omega arith in rw (lt-ltb v 10 h, digit)
+
+pub decimal_more : (v : ℕ) → 10 ≤ v → decimal v ≡ decimal (v / 10) ++ ((48 + v % 10) ∷ [])
+unfolding decimal decimal_in
+decimal_more v h =
+    rw (le-ltb v 10 h)
+    (ap (λ (ds : List ℕ). ds ++ ((48 + v % 10) ∷ [])) (enough_digits v (suc (v / 10)) (v / 10) (omega arith) (omega arith)))
 
 -- How many digits there are.
-record Count (v k digits : ℕ) : Type 0 where
-  some : 1 ≤ digits
-  most : v < 10 ^ suc k → digits ≤ suc k
-  least : 10 ^ suc k ≤ v → suc k < digits
 
-count : (v k : ℕ) → Count v k (length (decimal v))
-count = decimal_induction (λ (v : ℕ) (ds : List ℕ). (k : ℕ) → Count v k (length ds)) one more
-  where
-    one : (v : ℕ) → v < 10 → (k : ℕ) → Count v k 1
-    one v h k =
-        let power = one-le-pow k 10 (omega arith) in
-        record { some = omega arith; most = λ l. omega arith; least = λ l. omega (arith, pow-succ' 10 k) }
-
-    more : (v : ℕ) (ds : List ℕ) → 10 ≤ v → ((k : ℕ) → Count (v / 10) k (length ds))
-        → (k : ℕ) → Count v k (length (ds ++ ((48 + v % 10) ∷ [])))
-    more v ds h counted zero =
-        let c = counted 0 in
-        rw length-append (record { some = omega arith; most = λ l. absurd (omega arith); least = λ l. omega arith })
-    more v ds h counted (suc k) =
-        let c = counted k in
-        let next = pow-succ' 10 (suc k) in
-        rw length-append (record {
-          some = omega arith;
-          most = λ l. omega (arith, c.most (omega arith));
-          least = λ l. omega (arith, c.least (omega arith));
-        })
-
-pub digits_one : (v : ℕ) → v < 10 → length (decimal v) ≡ 1
-digits_one v h = omega (arith, (count v 0).some, (count v 0).most h)
-
-pub digits_more : (v k : ℕ) → 10 ^ suc k ≤ v → v < 10 ^ suc (suc k) → length (decimal v) ≡ suc (suc k)
-digits_more v k l h = omega (arith, (count v k).least l, (count v (suc k)).most h)
+digits_most : (k v : ℕ) → v < 10 ^ suc k → length (decimal v) ≤ suc k
+digits_most zero v h = rw (decimal_one v (omega arith)) (omega arith)
+digits_most (suc k) v h = elim (dec_le 10 v) [
+  | yes more ↦ rw (decimal_more v more, length-append) (omega (arith, digits_most k (v / 10) (omega (arith, pow-succ' 10 (suc k)))))
+  | no few ↦ rw (decimal_one v (omega arith)) (omega arith)
+]
 
 pub digits_few : (v : ℕ) → v < 100000 → length (decimal v) ≤ 5
-digits_few v h = (count v 4).most h
+digits_few = digits_most 4

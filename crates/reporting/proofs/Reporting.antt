@@ -1,14 +1,13 @@
 -- What a report says of a table: its numbers have at most five digits and are those of the table, and it has at most 64 bytes. From what
--- judging gives, for `report_on` and `report`.
+-- judging gives, for `put_report`.
 use Prim.Native.Nat.{ℕ, ◌*◌, ◌-◌, ◌≤◌, ◌<◌}
-use native.Mathlib.Nat.{zero-add, mul-le-mul}
+use native.Mathlib.Nat.{mul-le-mul}
 use native.Mathlib.Omega.{arith}
-use mathlib.Core.Path.{◌≡◌, refl, ◌∙◌}
-use mathlib.Core.List.{List, [], ◌∷◌, ◌++◌}
-use lib.ListN.{length, take, drop, length-append}
-use Rattle.lists.specs.Lists.{none, also, from}
+use mathlib.Core.Path.{◌≡◌, refl}
+use mathlib.Core.List.{List, [], ◌∷◌}
+use lib.ListN.{length, take, length-append}
+use Rattle.lists.specs.Lists.{All, none, also, from}
 use Rattle.lists.proofs.Ranges.{length_from}
-use Rattle.lists.proofs.Overwriting.{over_behind}
 use Rattle.records.specs.Refusal.{number_of, last_cause}
 use Rattle.records.specs.Read.{Read, found, refused}
 use Rattle.records.specs.declared.refusal.Refusal.{Refusal}
@@ -25,8 +24,8 @@ use Rattle.stages.specs.Steps.{buildable, productive, trimmed, rounds_in, reduce
 use Rattle.stages.proofs.Trimming.{trimmed_sound}
 use Rattle.stages.proofs.Sizes.{closure_shorter, reduce_well_formed}
 use Rattle.reporting.specs.Report.{line, numbers_in, refused_word, reduced_word, states_word, rules_word, rounds_word, report_of, report}
-use Rattle.reporting.specs.Inner.{Put, FewDigits, reduced_lines}
-use Rattle.reporting.proofs.Text.{line_short}
+use Rattle.reporting.specs.Inner.{reduced_lines}
+use Rattle.reporting.proofs.Text.{Short, line_short}
 
 -- A table that is refused.
 
@@ -61,7 +60,13 @@ reduction_rounds_few A w =
     let product : n * (n - 1) ≤ 256 * 255 = mul-le-mul few fewer in
     omega (arith, rounds_below (trimmed A).rules (trimmed A).states (λ u m t. (trimmed_sound A w).children u m))
 
-pub numbers_few : (A : Automaton) → WellFormed A → FewDigits (size_of A) (size_of (reduce A)) (reduction_rounds A)
+-- The numbers of the four lines on a reduced table have at most five digits.
+record FewDigits (old new : Size) (rounds : ℕ) : Type 0 where
+  states : All Short (old.states ∷ new.states ∷ [])
+  rules : All Short (old.rules ∷ new.rules ∷ [])
+  last : All Short (rounds ∷ [])
+
+numbers_few : (A : Automaton) → WellFormed A → FewDigits (size_of A) (size_of (reduce A)) (reduction_rounds A)
 unfolding size_of
 numbers_few A w =
     let v = reduce_well_formed A w in
@@ -93,19 +98,15 @@ lines_short old new rounds few =
       line_short rounds_word few.last,
     ))
 
-pub report_short : (input : List ℕ) → length (report input) ≤ 64
-unfolding report report_of refused_word reduced_lines size_of
-report_short input = go (judge (take 27417 input)) refl
+pub report_of_short : (b : List ℕ) → length (report_of (judge b)) ≤ 64
+unfolding report_of refused_word reduced_lines size_of
+report_of_short b = go (judge b) refl
   where
-    go : (j : Read Automaton) → judge (take 27417 input) ≡ j → length (report_of j) ≤ 64
+    go : (j : Read Automaton) → judge b ≡ j → length (report_of j) ≤ 64
     go (refused cause) e = omega (arith, line_short refused_word {vs = cause ∷ []} (also {x = cause} (omega (arith, judge_causes _ cause e)) none))
     go (found A) e =
         lines_short (size_of A) (size_of (reduce A)) (reduction_rounds A) (numbers_few A (judged_well_formed _ A e))
 
--- The report on an input, at the start of the buffer.
-pub report_written : (input part out : List ℕ) (end : ℕ) (now : List ℕ) → part ≡ take 27417 input
-    → Put out 0 (report_of (judge part)) end now
-    → (end ≡ length (report input)) × (now ≡ report input ++ drop (length (report input)) out)
+pub report_short : (input : List ℕ) → length (report input) ≤ 64
 unfolding report
-report_written input part out end now e p =
-    rw (← e) (p.ends ∙ zero-add _, p.written ∙ over_behind [] out (report_of (judge part)) 0 refl)
+report_short input = report_of_short (take 27417 input)

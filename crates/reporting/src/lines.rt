@@ -1,75 +1,57 @@
 // The report on a table: what reducing it does, or why it is refused, in lines of text.
-ghost use Rattle.std.specs.Prelude.{◌≡◌, ◌∷◌, ◌++◌, ◌+◌, ◌*◌, ◌≤◌, ◌<◌, length, take, drop};
-ghost use Rattle.lists.specs.Lists.{All};
+#![tactic(auto, using(crate::proofs::Text::by_line))]
+
+ghost use Rattle.std.specs.Prelude.{◌≡◌, ◌∷◌, ◌++◌, ◌+◌, ◌≤◌, length, take, drop};
+ghost use Rattle.records.specs.Pen.{put_in, HasRoom};
 ghost use Rattle.automaton.specs.Table.{judge};
 ghost use Rattle.reporting.specs.Report as spec;
-ghost use Rattle.reporting.specs.Inner.{Short, Put, FewDigits, reduced_lines};
+ghost use Rattle.reporting.specs.Inner.{reduced_lines};
 
 use automaton::{RULES, Row, Size, decode};
-use records::put_bytes;
+use records::Pen;
 use reduction::reduce_table;
 
-// How many digits v has.
-fn digits(v: usize) -> usize
-    requires { v < 100000 }
-    ensures { result ≡ length (spec.decimal v) }
+// The digits of v. `write!` would be no plainer: it may answer an error, and the report cannot fail.
+fn put_digits(pen: &mut Pen, v: usize)
+    requires { HasRoom (length (spec.decimal v)) pen.old }
+    ensures { pen.new ≡ put_in (spec.decimal v) pen.old }
 {
-    match v {
-        0..=9 => 1,
-        10..=99 => 2,
-        100..=999 => 3,
-        1000..=9999 => 4,
-        _ => 5,
+    if v >= 10 {
+        put_digits(pen, v / 10);
     }
+    pen.put(&[b'0' + (v % 10) as u8]);
 }
 
-// A space and the digits of v from `at` on; returns where they end. `write!` would be no plainer: it may answer an error, and the report cannot fail.
-fn put_number(out: &mut [u8], at: usize, v: usize) -> usize
-    requires { (v < 100000) × (at + 6 ≤ length out.old) }
-    ensures { Put out.old at (32 ∷ spec.decimal v) result out.new }
+// A space and the digits of v.
+fn put_number(pen: &mut Pen, v: usize)
+    requires { HasRoom (length (32 ∷ spec.decimal v)) pen.old }
+    ensures { pen.new ≡ put_in (32 ∷ spec.decimal v) pen.old }
 {
-    let end = at + 1 + digits(v);
-    out[at] = b' ';
-    let mut left = v;
-    for j in (at + 1..end).rev() {
-        out[j] = b'0' + (left % 10) as u8;
-        left /= 10;
-    }
-    end
+    pen.put(b" ");
+    put_digits(pen, v);
 }
 
-// A word from `at` on; returns where it ends.
-fn put_word(out: &mut [u8], at: usize, word: &[u8]) -> usize
-    requires { at + length word.now ≤ length out.old }
-    ensures { Put out.old at word.now result out.new }
+// A line of a word and some numbers.
+fn put_line(pen: &mut Pen, word: &[u8], numbers: &[usize])
+    requires { HasRoom (length (spec.line word.now numbers.now)) pen.old }
+    ensures { pen.new ≡ put_in (spec.line word.now numbers.now) pen.old }
 {
-    put_bytes(out, at, word);
-    at + word.len()
-}
-
-// A line of a word and some numbers from `at` on; returns where it ends.
-fn put_line(out: &mut [u8], at: usize, word: &[u8], numbers: &[usize]) -> usize
-    requires all { All Short numbers.now }
-    requires numbers_in_bounds { at + (length word.now + (6 * length numbers.now + 1)) ≤ length out.old }
-    ensures { Put out.old at (spec.line word.now numbers.now) result out.new }
-{
-    let mut end = put_word(out, at, word);
+    pen.put(word);
     for v in numbers {
-        end = put_number(out, end, *v);
+        put_number(pen, *v);
     }
-    out[end] = b'\n';
-    end + 1
+    pen.put(b"\n");
 }
 
 // The four lines on a reduced table.
-fn put_reduced(out: &mut [u8], old: Size, new: Size, rounds: usize) -> usize
-    requires { (64 ≤ length out.old) × FewDigits old new rounds }
-    ensures { Put out.old 0 (reduced_lines old new rounds) result out.new }
+fn put_reduced(pen: &mut Pen, old: Size, new: Size, rounds: usize)
+    requires { HasRoom (length (reduced_lines old new rounds)) pen.old }
+    ensures { pen.new ≡ put_in (reduced_lines old new rounds) pen.old }
 {
-    let head = put_word(out, 0, b"reduced\n");
-    let states = put_line(out, head, b"states", &[old.states, new.states]);
-    let rules = put_line(out, states, b"rules", &[old.rules, new.rules]);
-    put_line(out, rules, b"rounds", &[rounds])
+    put_line(pen, b"reduced", &[]);
+    put_line(pen, b"states", &[old.states, new.states]);
+    put_line(pen, b"rules", &[old.rules, new.rules]);
+    put_line(pen, b"rounds", &[rounds]);
 }
 
 // Writes the report on the first 27,417 bytes of `input` to the start of `out`; returns its length.
@@ -77,7 +59,9 @@ pub fn report(input: &[u8], out: &mut [u8; 64]) -> usize
     ensures value { result ≡ length (spec.report input.now) }
     ensures out_after { out.new ≡ spec.report input.now ++ drop (length (spec.report input.now)) out.old }
 {
-    report_on(first(input), out)
+    let mut pen = Pen::new(out);
+    put_report(&mut pen, first(input));
+    pen.place()
 }
 
 // The first 27,417 bytes, or all where there are fewer.
@@ -88,17 +72,17 @@ fn first(input: &[u8]) -> &[u8]
 }
 
 // The report on a table.
-fn report_on(table: &[u8], out: &mut [u8]) -> usize
-    requires { length out.old ≡ 64 }
-    ensures { Put out.old 0 (spec.report_of (judge table.now)) result out.new }
+fn put_report(pen: &mut Pen, table: &[u8])
+    requires { HasRoom 64 pen.old }
+    ensures { pen.new ≡ put_in (spec.report_of (judge table.now)) pen.old }
 {
     let mut rows = [Row::EMPTY; RULES];
     match decode(table, &mut rows) {
-        Err(cause) => put_line(out, 0, b"refused", &[u32::from(cause) as usize]),
+        Err(cause) => put_line(pen, b"refused", &[u32::from(cause) as usize]),
         Ok(decoded) => {
             let old = decoded.size();
             let short = reduce_table(decoded);
-            put_reduced(out, old, short.table.size(), short.rounds)
+            put_reduced(pen, old, short.table.size(), short.rounds);
         }
     }
 }

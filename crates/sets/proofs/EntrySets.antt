@@ -1,11 +1,10 @@
 -- Sets of states, one after the other: what stands at an entry, after a set is put at one too, and that an entry is four words of 64 bits. By
 -- induction on the sets; used by the code that keeps sets in arrays.
-use Prim.Native.Nat.{ℕ, zero, suc, ◌+◌, ◌≤◌, ◌<◌}
-use native.Mathlib.Nat.{suc-add, zero-add}
+use Prim.Native.Nat.{ℕ, zero, suc, ◌≤◌, ◌<◌}
 use native.Mathlib.Omega.{arith}
-use mathlib.Core.Path.{◌≡◌, refl, sym, ap, ◌∙◌}
-use mathlib.Core.List.{List, [], ◌∷◌, ◌++◌}
-use lib.ListN.{length, drop, get_or, set, replicate}
+use mathlib.Core.Path.{◌≡◌, refl, ap, ◌∙◌}
+use mathlib.Core.List.{List, [], ◌∷◌}
+use lib.ListN.{length, get_or, set, replicate}
 use Rattle.sets.specs.Set.{empty_set, words}
 use Rattle.sets.specs.Entries.{entry_at}
 use Rattle.sets.specs.declared.set.StateSet.{StateSet}
@@ -58,30 +57,10 @@ entry_other (x ∷ xs) zero s (suc q) other = refl
 entry_other (x ∷ xs) (suc e) s zero other = refl
 entry_other (x ∷ xs) (suc e) s (suc q) other = entry_other xs e s q (λ same. other (ap suc same))
 
--- One set at all entries, entries behind others, and one more.
+-- One set at all entries.
 
 pub entry_repeated : (n e : ℕ) (s : StateSet) → e < n → entry_at (replicate n s) e ≡ s.words
 unfolding entry_at
 entry_repeated zero e s h = absurd (omega arith)
 entry_repeated (suc n) zero s h = refl
 entry_repeated (suc n) (suc e) s h = entry_repeated n e s (omega arith)
-
-pub entry_behind : (sets : List StateSet) (k e : ℕ) → entry_at (drop k sets) e ≡ entry_at sets (k + e)
-unfolding entry_at
-entry_behind sets zero e = ap (entry_at sets) (sym (zero-add e))
-entry_behind [] (suc k) e = entry_none [] e (omega arith) ∙ sym (entry_none [] (suc k + e) (omega arith))
-entry_behind (x ∷ xs) (suc k) e = entry_behind xs k e ∙ next xs (k + e) ∙ ap (entry_at (x ∷ xs)) (sym (suc-add k e))
-  where
-    next : (ys : List StateSet) (i : ℕ) → entry_at ys i ≡ entry_at (x ∷ ys) (suc i)
-    next ys i = refl
-
-pub entry_before : (sets more : List StateSet) (e : ℕ) → e < length sets → entry_at (sets ++ more) e ≡ entry_at sets e
-unfolding entry_at
-entry_before [] more e h = absurd (omega arith)
-entry_before (x ∷ xs) more zero h = refl
-entry_before (x ∷ xs) more (suc e) h = entry_before xs more e (omega arith)
-
-pub entry_last : (sets : List StateSet) (s : StateSet) → entry_at (sets ++ (s ∷ [])) (length sets) ≡ s.words
-unfolding entry_at
-entry_last [] s = refl
-entry_last (x ∷ xs) s = entry_last xs s

@@ -1,17 +1,15 @@
 -- The bytes of a set, word by word. From the laws of division; for `bytes`.
-use Prim.Native.Nat.{ℕ, ◌+◌, ◌-◌, ◌*◌, ◌/◌, ◌%◌, ◌^◌, ◌≤◌, ◌<◌}
+use Prim.Native.Nat.{ℕ, ◌+◌, ◌*◌, ◌/◌, ◌%◌, ◌^◌, ◌<◌}
 use native.Mathlib.Nat.{div-one, zero-add}
 use native.Mathlib.Omega.{arith}
 use mathlib.Core.Path.{◌≡◌, refl, sym, ap, ◌∙◌}
-use mathlib.Core.List.{List, ◌∷◌, map, map-append}
-use lib.ListN.{length, take, get_or, length-take, length-drop}
-use borrow.Rule.Slice.PartMut.{put_mid, same_len_mid}
-use Rattle.std.proofs.lemmas.Slice.{take-put_mid}
+use mathlib.Core.List.{List, [], ◌∷◌, map}
+use lib.ListN.{length, get_or}
 use Rattle.std.specs.Int.{to_le_bytes, w64}
+use Rattle.std.specs.List.{flat_map}
 use Rattle.lists.specs.Lists.{from}
 use Rattle.lists.proofs.Mapping.{map_shifted}
-use Rattle.lists.proofs.Ranges.{from_append}
-use Rattle.sets.specs.Inner.{set_byte}
+use Rattle.sets.specs.Inner.{set_byte, set_bytes}
 
 word_bytes : (set : List ℕ) (i : ℕ) → to_le_bytes w64 (get_or set i 0) ≡ map (set_byte set) (from (8 * i) 8)
 unfolding set_byte from
@@ -28,18 +26,14 @@ word_bytes set i =
     later : List ℕ
     later = map (λ (j : ℕ). w / 2 ^ (8 * j) % 256) (from 1 7)
 
--- The bytes of one word more.
-pub bytes_more : (set bytes part : List ℕ) (i k : ℕ) → 8 * i ≤ length bytes → part ≡ to_le_bytes w64 (get_or set i 0)
-    → take (8 * i) bytes ≡ map (set_byte set) (from 0 (8 * i))
-    → take (8 * (i + 1)) (put_mid (8 * i) k bytes part) ≡ map (set_byte set) (from 0 (8 * (i + 1)))
-bytes_more set bytes part i k room is before =
-    let more : 8 * (i + 1) ≡ 8 * i + 8 = omega arith in
-    let eight : length part ≡ 8 = ap length is in
-    take-put_mid (8 * i) k bytes part (8 * (i + 1)) (omega arith) room
-    ∙ rw (more, from_append, map-append, zero-add, before, is, word_bytes set i) refl
-
-pub bytes_long : (set bytes part : List ℕ) (i : ℕ) → length bytes ≡ 32 → i < 4 → part ≡ to_le_bytes w64 (get_or set i 0)
-    → length (put_mid (8 * i) (8 * i + 8 - 8 * i) bytes part) ≡ 32
-bytes_long set bytes part i long low is =
-    let eight : length part ≡ 8 = ap length is in
-    same_len_mid (8 * i) (8 * i + 8 - 8 * i) bytes part (simp (length-take, length-drop) (omega arith)) ∙ long
+-- The bytes of the words, one word after the other.
+pub bytes_by_word : (set : List ℕ) (parts : List (List ℕ)) → length parts ≡ 4
+    → ((i : ℕ) → i < 4 → get_or parts i [] ≡ to_le_bytes w64 (get_or set i 0)) → flat_map (λ (part : List ℕ). part) parts ≡ set_bytes set
+unfolding set_bytes from
+bytes_by_word set (a ∷ b ∷ c ∷ d ∷ []) four each =
+    rw (each 0 (omega arith) ∙ word_bytes set 0, each 1 (omega arith) ∙ word_bytes set 1, each 2 (omega arith) ∙ word_bytes set 2, each 3 (omega arith) ∙ word_bytes set 3) refl
+bytes_by_word set [] four each = absurd (omega arith)
+bytes_by_word set (a ∷ []) four each = absurd (omega arith)
+bytes_by_word set (a ∷ b ∷ []) four each = absurd (omega arith)
+bytes_by_word set (a ∷ b ∷ c ∷ []) four each = absurd (omega arith)
+bytes_by_word set (a ∷ b ∷ c ∷ d ∷ e ∷ parts) four each = absurd (omega arith)

@@ -14,9 +14,10 @@ use lib.Pow.{shr_lt}
 use lib.Bits.{bit_and}
 use lib.Count.{ones, ones_step, count_trailing_zeros, under}
 use borrow.Author.Tests.{eq-eqb, ne_eqb, eqb-true, eqb-false}
+use Rattle.std.specs.List.{sum_by}
 use Rattle.lists.specs.Lists.{from, keep}
-use Rattle.lists.proofs.Keeping.{keep_none, keep_append, keep_agree, keep_shorter}
-use Rattle.lists.proofs.Ranges.{from_append, length_from, each_from}
+use Rattle.lists.proofs.Keeping.{keep_none, keep_append, keep_agree}
+use Rattle.lists.proofs.Ranges.{from_append, each_from}
 use Rattle.sets.specs.Set.{member, words, replaced}
 use Rattle.sets.specs.Inner.{states_in, states_from}
 use Rattle.sets.proofs.StateSets.{bit, bit_suc, bit_zero, bit_and_lem, get_d_words, words_get_or, member_words}
@@ -50,7 +51,7 @@ ones_bits test (suc n) r x h same =
     go false d later = omega arith
 
 -- The states of one word more.
-pub ones_word : (ws : List ℕ) (w : ℕ) → get_or ws w 0 < 2 ^ 64
+ones_word : (ws : List ℕ) (w : ℕ) → get_or ws w 0 < 2 ^ 64
     → length (keep (member ws) (from 0 (64 * (w + 1)))) ≡ length (keep (member ws) (from 0 (64 * w))) + ones (get_or ws w 0)
 ones_word ws w small =
     let more : 64 * (w + 1) ≡ 64 * w + 64 = omega arith in
@@ -58,10 +59,17 @@ ones_word ws w small =
     (ap (λ (n : ℕ). length (keep (member ws) (from 0 (64 * w))) + n)
     (sym (ones_bits (member ws) 64 (64 * w) (get_or ws w 0) small (λ k l. sym (member_bit ws w k l)))))
 
-pub ones_few : (ws : List ℕ) (w : ℕ) → get_or ws w 0 < 2 ^ 64 → ones (get_or ws w 0) ≤ 64
-ones_few ws w small =
-    let most : length (keep (member ws) (from (64 * w) 64)) ≤ length (from (64 * w) 64) = keep_shorter (member ws) (from (64 * w) 64) in
-    omega (arith, ones_bits (member ws) 64 (64 * w) (get_or ws w 0) small (λ k l. sym (member_bit ws w k l)), length_from (64 * w) 64)
+-- The bits of four words are the states of their set.
+pub ones_set : (ws : List ℕ) → length ws ≡ 4 → ((i : ℕ) → get_or ws i 0 < 2 ^ 64) → sum_by ones ws ≡ length (states_in 256 ws)
+unfolding states_in keep from
+ones_set (a ∷ b ∷ c ∷ d ∷ []) four bits =
+    let ws = a ∷ b ∷ c ∷ d ∷ [] in
+    omega (arith, ones_word ws 0 (bits 0), ones_word ws 1 (bits 1), ones_word ws 2 (bits 2), ones_word ws 3 (bits 3))
+ones_set [] four bits = absurd (omega arith)
+ones_set (a ∷ []) four bits = absurd (omega arith)
+ones_set (a ∷ b ∷ []) four bits = absurd (omega arith)
+ones_set (a ∷ b ∷ c ∷ []) four bits = absurd (omega arith)
+ones_set (a ∷ b ∷ c ∷ d ∷ e ∷ ws) four bits = absurd (omega arith)
 
 -- The lowest bit that is set, the zeros below it, and the number without it.
 

@@ -16,18 +16,18 @@ use lib.Pow.{shl_exact, shr-shr, pow-lt}
 use lib.Bits.{bit_and, bit_or, bit_xor, differ, and_shr, and_step, or_shr, or_step, xor_shr, xor_step, or_lt, xor_lt, and_lt}
 use mir.Syntax.{w64}
 use Rattle.std.proofs.lemmas.Nat.Bits.{bit_at_clear_same, bit_at_clear_other}
-use borrow.Author.Tests.{eq-eqb, ne_eqb, eqb-true, eqb-false, ltb-true, lt-ltb, le-ltb}
+use borrow.Author.Tests.{eq-eqb, ne_eqb, eqb-true, eqb-false, ltb-true, ltb-false, lt-ltb, le-ltb}
 use Rattle.lists.specs.Lists.{All, Rising, from, keep, any, among}
 use Rattle.lists.proofs.Booleans.{and_true_out, same_bool, never_true, not_true_in, not_true_out}
 use Rattle.lists.proofs.Elements.{all_member}
 use Rattle.lists.proofs.Keeping.{keep_in, keep_out, keep_agree, keep_none, keep_append}
 use Rattle.lists.proofs.Ranges.{from_append, from_rising, member_from, from_member, each_from}
 use Rattle.lists.proofs.Rising.{rising_keep, rising_same}
-use Rattle.lists.proofs.Search.{any_out, any_none_out, any_append, any_keep, any_same, among_in, among_out}
+use Rattle.lists.proofs.Search.{any_out, any_none, any_none_out, any_append, any_keep, any_same, among_in, among_out}
 use Rattle.sets.specs.Set as sets
 use Rattle.sets.specs.Set.{member, words, empty_set, replaced, with_state, without_state, union_of, meet_of, same_set}
 use Rattle.sets.specs.declared.set.StateSet.{StateSet}
-use Rattle.sets.specs.Inner.{with_all, set_of, states_in, Has}
+use Rattle.sets.specs.Inner.{with_all, set_of, states_in, Has, Below}
 
 pub below_four : (P : ℕ → Type 0) → P 0 → P 1 → P 2 → P 3 → (i : ℕ) → i < 4 → P i
 below_four P a b c d zero h = a
@@ -315,6 +315,20 @@ states_below test low n h has =
     keep_none _ (from (0 + n) (256 - n)) (each_from _ (0 + n) (256 - n) (λ r a b. has r (omega arith) ∙ rw (le-ltb r n (omega arith)))) in
     ap (λ (m : ℕ). keep (member low) (from 0 m)) split
     ∙ rw (from_append, keep_append, front, rest) (append-nil (keep test (from 0 n)))
+
+-- A set without states from n on has those below n; such a set is one of listed states below n, and one whose states are all below n.
+pub states_under : (n : ℕ) (set : List ℕ) → n ≤ 256 → Below n set → states_in 256 set ≡ states_in n set
+unfolding states_in Below
+states_under n set h under = states_below (member set) set n h (λ r b. go r b (ltb r n) refl)
+  where
+    go : (r : ℕ) → r < 256 → (t : Bool) → ltb r n ≡ t → member set r ≡ (t && member set r)
+    go r b true e = refl
+    go r b false e = under r (ltb-false r n e) b
+
+pub listed_under : (n : ℕ) (qs : List ℕ) → All (λ (q : ℕ). q < n) qs → Below n (set_of qs)
+unfolding Below among
+listed_under n qs lows r high b =
+    member_set_of qs r b ∙ any_none (λ (q : ℕ). eqb q r) qs (λ q m. let low = all_member lows m in ne_eqb q r (λ e. omega arith))
 
 -- Words below 2 ^ 64, as the code's are.
 

@@ -5,5 +5,5 @@ mod set;
 mod states;
 
 // Exported for the crates above.
-pub use set::StateSet;
+pub use set::{StateSet, is_member};
 pub use states::States;

@@ -69,11 +69,10 @@ impl StateSet {
     pub fn len(self) -> usize
         ensures { result ≡ length (states_in 256 self.words) }
     {
-        let mut count = 0;
-        for word in &self.words {
-            count += word.count_ones() as usize;
-        }
-        count
+        self.words
+            .iter()
+            .map(|word| word.count_ones() as usize)
+            .sum()
     }
 
     // The states of the set, rising.
@@ -88,9 +87,7 @@ impl StateSet {
         ensures { result ≡ set_bytes self.words }
     {
         let mut bytes = [0; 32];
-        for (i, word) in self.words.iter().enumerate() {
-            bytes[8 * i..8 * i + 8].copy_from_slice(&word.to_le_bytes());
-        }
+        bytes.copy_from_slice(self.words.map(u64::to_le_bytes).as_flattened());
         bytes
     }
 
@@ -98,14 +95,14 @@ impl StateSet {
     pub fn insert(&mut self, q: u8)
         ensures { self.new.words ≡ with_state self.old.words q }
     {
-        self.words[(q / 64) as usize] |= 1 << (q % 64);
+        self.words[usize::from(q / 64)] |= 1 << (q % 64);
     }
 
     // Takes state q out of the set.
     pub fn remove(&mut self, q: u8)
         ensures { self.new.words ≡ without_state self.old.words q }
     {
-        self.words[(q / 64) as usize] &= !(1 << (q % 64));
+        self.words[usize::from(q / 64)] &= !(1 << (q % 64));
     }
 
     // The set with state q.
@@ -161,8 +158,8 @@ impl StateSet {
 }
 
 // Whether state q is in the set of these words.
-fn is_member(words: &[u64; 4], q: u8) -> bool
+pub fn is_member(words: &[u64; 4], q: u8) -> bool
     ensures { result ≡ member words.now q }
 {
-    (words[(q / 64) as usize] >> (q % 64)) % 2 == 1
+    (words[usize::from(q / 64)] >> (q % 64)) % 2 == 1
 }

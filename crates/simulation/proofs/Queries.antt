@@ -6,12 +6,11 @@ use mathlib.Core.Logic.{◌⊎◌, inl, inr, ◌↔◌}
 use mathlib.Core.List.{List}
 use mathlib.Core.Bool.{Bool, true, false, not, ◌&&◌, false≢true}
 use native.Mathlib.Omega.{arith}
-use lib.ListN.{length, get_or, drop}
+use lib.ListN.{length, get_or, take, drop}
 use lib.Dec.{eqb, ltb}
 use borrow.Author.Tests.{eq-eqb, eqb-true, lt-ltb, le-ltb, not-false}
 use Rattle.lists.specs.Lists.{Distinct, from}
 use Rattle.lists.specs.Over.{over}
-use Rattle.lists.proofs.Elements.{all_member}
 use Rattle.lists.proofs.Ranges.{length_from, from_distinct}
 use Rattle.lists.proofs.Booleans.{and_true_in, and_false_left, and_false_right, or_false_out}
 use Rattle.lists.proofs.Search.{all_in}
@@ -29,7 +28,7 @@ use Rattle.automaton.specs.Decoded.{size_of}
 use Rattle.automaton.specs.Row.{rule_at}
 use Rattle.automaton.specs.Table.{judge}
 use Rattle.automaton.specs.declared.table.Size.{Size}
-use Rattle.automaton.proofs.Rows.{rules_at, rules_each, rule_in_lem}
+use Rattle.automaton.proofs.Rows.{rules_at, rules_each}
 use Rattle.refinement.specs.Simulation.{Relation, related, relation, survives}
 use Rattle.refinement.specs.Inner.{relation_in, answered}
 use Rattle.refinement.proofs.Pairs.{pairs_in, survives_related, relation_length, relation_distinct}
@@ -43,10 +42,6 @@ use Rattle.simulation.proofs.Preorder.{below_member, preorder_states}
 pub states_of : (A : Automaton) (size : Size) → size ≡ size_of A → size.states ≡ A.states
 unfolding size_of
 states_of A size is = ap (λ (s : Size). s.states) is
-
--- The targets of the rules are states.
-pub target_below : (A : Automaton) → WellFormed A → (i : ℕ) → i < length A.rules → (rule_at A.rules i).target < A.states
-target_below A w i h = (all_member w.rules (rule_in_lem A.rules i h)).target
 
 -- The relation query.
 
@@ -72,14 +67,14 @@ module _ (A : Automaton) (w : WellFormed A) where
       (λ one. sym e ∙ eq-eqb _ 1 one, λ t. eqb-true _ 1 (e ∙ t))
 
   -- The rows that hold the relation.
-  module _ (rows : List StateSet) (is : relation_in rows ≡ simulation_of A) where
-    bytes_are : bytes_of rows A.states ≡ relation_bytes A
+  module _ (rows : List StateSet) (long : A.states ≤ length rows) (is : relation_in rows ≡ simulation_of A) where
+    bytes_are : bytes_of (take A.states rows) ≡ relation_bytes A
     unfolding relation_bytes
-    bytes_are = bytes_rows rows A.states w.states ∙ rw is
+    bytes_are = bytes_rows rows A.states long w.states ∙ rw is
 
-    pairs_are : pairs_of rows A.states ≡ length (simulation_of A)
+    pairs_are : pairs_of (take A.states rows) ≡ length (simulation_of A)
     pairs_are =
-        pairs_rows rows A.states w.states (λ q r h. rw is (go q r h (related (simulation_of A) q r) refl))
+        pairs_rows rows A.states long w.states (λ q r h. rw is (go q r h (related (simulation_of A) q r) refl))
         ∙ ap (λ (R : Relation). pairs_in (related R) (from 0 A.states) (from 0 A.states)) is
         ∙ sym counted
       where
@@ -104,14 +99,14 @@ module _ (b out : List ℕ) (A : Automaton) (w : WellFormed A) (e : judge b ≡ 
   query_found h = rw (e, (room_enough (relation_bytes A) out (rw (length_bytes A w) h)).0)
 
   pub query_written : (rows : List StateSet) (after : List ℕ) (count pairs : ℕ) → 32 * A.states ≤ length out
-      → relation_in rows ≡ simulation_of A → count ≡ rounds_of A
-      → after ≡ over out 0 (bytes_of rows A.states) → pairs ≡ pairs_of rows A.states
+      → A.states ≤ length rows → relation_in rows ≡ simulation_of A → count ≡ rounds_of A
+      → after ≡ over out 0 (bytes_of (take A.states rows)) → pairs ≡ pairs_of (take A.states rows)
       → (reading_of (Ok (record { rounds = count; pairs = pairs })) ≡ relation_query b out) × (after ≡ relation_after (judge b) out)
   unfolding reading_of relation_after
-  query_written rows after count pairs h f g o p =
+  query_written rows after count pairs h long f g o p =
       let enough = room_enough (relation_bytes A) out (rw (length_bytes A w) h) in (
-        rw (query_found h, g, p, pairs_are A w rows f),
-        rw (e, enough.1, o, bytes_are A w rows f),
+        rw (query_found h, g, p, pairs_are A w rows long f),
+        rw (e, enough.1, o, bytes_are A w rows long f),
       )
 
 -- The pair query.

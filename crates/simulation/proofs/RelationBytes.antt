@@ -8,23 +8,22 @@ use native.Mathlib.Nat.{add-zero, add-suc, suc-add, zero-add, add_assoc}
 use native.Mathlib.Numerals.{add-one}
 use native.Mathlib.Omega.{arith}
 use lib.ListN.{length, take, get_or, length-append, length-map, get_or-append}
-use lib.Seq.{get_or-append-add}
+use lib.Seq.{get_or-append-add, length-take-le}
 use lib.Dec.{eqb}
 use lib.Pow.{mod-pow-add, shr-shr}
-use Rattle.std.specs.List.{sum_by}
 use Rattle.std.proofs.lemmas.List.Sums.{sum_by-cons}
 use borrow.Author.Tests.{eq-eqb, ne_eqb, eqb-true, eqb-false}
 use Rattle.lists.specs.Lists.{from, keep}
 use Rattle.lists.specs.Over.{over}
-use Rattle.lists.proofs.Ranges.{from_step, length_from, from_append, each_from}
+use Rattle.lists.proofs.Ranges.{length_from, from_append, each_from}
 use Rattle.lists.proofs.Overwriting.{over_then}
 use Rattle.lists.proofs.Mapping.{map_shifted}
 use Rattle.lists.proofs.Keeping.{keep_none, keep_append, keep_agree, keep_shorter}
-use Rattle.sets.specs.Set.{member, empty_set}
+use Rattle.sets.specs.Set.{member}
 use Rattle.sets.specs.Entries.{entry_at}
 use Rattle.sets.specs.Inner.{states_in, set_byte, set_bytes}
 use Rattle.sets.specs.declared.set.StateSet.{StateSet}
-use Rattle.sets.proofs.StateSets.{bit, bit_suc, member_empty}
+use Rattle.sets.proofs.StateSets.{bit, bit_suc}
 use Rattle.refinement.specs.Simulation.{Relation, related}
 use Rattle.refinement.specs.Inner.{relation_in}
 use Rattle.refinement.proofs.Pairs.{pairs_in}
@@ -77,6 +76,9 @@ unfolding relation_rows
 rows_append R [] qs = refl
 rows_append R (p ∷ ps) qs = rw (rows_append R ps qs, append_assoc)
 
+abbrev pub states_count : StateSet → ℕ
+states_count row = length (states_in 256 row.words)
+
 module _ (rows : List StateSet) where
   abbrev R : Relation
   R = relation_in rows
@@ -102,23 +104,33 @@ module _ (rows : List StateSet) where
       map_shifted (set_byte (entry_at rows q)) (λ (i : ℕ). bits_from R q (8 * i) 8) 0 0 32
       (λ i l. rw zero-add (byte_is q i h l))
 
-  pub bytes_rows : (n : ℕ) → n ≤ 256 → bytes_of rows n ≡ relation_rows R (from 0 n)
-  unfolding bytes_of
-  bytes_rows zero h = unfold from relation_rows in refl
-  bytes_rows (suc n) h =
-      ap₂ ◌++◌ (bytes_rows n (omega arith)) (row_is n (omega arith))
-      ∙ rw (← add-one n, from_step, rows_append, zero-add) (unfold relation_rows in rw append-nil refl)
+  bytes_from : (xs : List StateSet) (p n : ℕ) → n ≤ length xs → ((q : ℕ) → q < n → set_bytes (entry_at xs q) ≡ row_bytes R (p + q))
+      → bytes_of (take n xs) ≡ relation_rows R (from p n)
+  unfolding from relation_rows entry_at
+  bytes_from xs p zero h same = refl
+  bytes_from [] p (suc n) h same = absurd (omega arith)
+  bytes_from (x ∷ xs) p (suc n) h same =
+      ap₂ ◌++◌ (rw add-zero at (same 0 (omega arith)))
+      (bytes_from xs (suc p) n (omega arith) (λ q l. rw (add-suc, ← suc-add) at (same (suc q) (omega arith))))
+
+  pub bytes_rows : (n : ℕ) → n ≤ length rows → n ≤ 256 → bytes_of (take n rows) ≡ relation_rows R (from 0 n)
+  bytes_rows n long few = bytes_from rows 0 n long (λ q h. rw zero-add (row_is q (omega arith)))
 
   row_pairs : (q : ℕ) → q < 256 → length (states_in 256 (entry_at rows q)) ≡ length (keep (related R q) (from 0 256))
   unfolding states_in
   row_pairs q h =
       ap length (keep_agree _ _ (from 0 256) (each_from _ 0 256 (λ r a b. sym (related_in rows q r h (omega arith)))))
 
-  all_rows : (n : ℕ) → n ≤ 256 → pairs_of rows n ≡ pairs_in (related R) (from 0 n) (from 0 256)
-  unfolding pairs_in pairs_of
-  all_rows zero h = unfold from in refl
-  all_rows (suc n) h =
-      rw (all_rows n (omega arith), row_pairs n (omega arith), ← add-one n, from_step, pairs_append, zero-add, add-zero)
+  pairs_from : (xs : List StateSet) (p n : ℕ) → n ≤ length xs
+      → ((q : ℕ) → q < n → length (states_in 256 (entry_at xs q)) ≡ length (keep (related R (p + q)) (from 0 256)))
+      → pairs_of (take n xs) ≡ pairs_in (related R) (from p n) (from 0 256)
+  unfolding from pairs_in entry_at
+  pairs_from xs p zero h same = refl
+  pairs_from [] p (suc n) h same = absurd (omega arith)
+  pairs_from (x ∷ xs) p (suc n) h same =
+      sum_by-cons states_count x (take n xs)
+      ∙ ap₂ ◌+◌ (rw add-zero at (same 0 (omega arith)))
+      (pairs_from xs (suc p) n (omega arith) (λ q l. rw (add-suc, ← suc-add) at (same (suc q) (omega arith))))
 
   columns_below : (qs : List ℕ) (n : ℕ) → n ≤ 256 → ((q r : ℕ) → n ≤ r → related R q r ≡ false)
       → pairs_in (related R) qs (from 0 256) ≡ pairs_in (related R) qs (from 0 n)
@@ -131,37 +143,18 @@ module _ (rows : List StateSet) where
       at (length_keep_append (related R q) 0 n (256 - n)) in
       rw (few, add-zero, columns_below qs n h low)
 
-  pub pairs_rows : (n : ℕ) → n ≤ 256 → ((q r : ℕ) → n ≤ r → related R q r ≡ false)
-      → pairs_of rows n ≡ pairs_in (related R) (from 0 n) (from 0 n)
-  pairs_rows n h low = all_rows n h ∙ columns_below (from 0 n) n h low
+  pub pairs_rows : (n : ℕ) → n ≤ length rows → n ≤ 256 → ((q r : ℕ) → n ≤ r → related R q r ≡ false)
+      → pairs_of (take n rows) ≡ pairs_in (related R) (from 0 n) (from 0 n)
+  pairs_rows n long few low =
+      pairs_from rows 0 n long (λ q h. rw zero-add (row_pairs q (omega arith))) ∙ columns_below (from 0 n) n few low
 
--- The pairs of the first rows, summed from the first row on, and a bound on them.
+-- A bound on the pairs of some rows.
 
-abbrev pub states_count : StateSet → ℕ
-states_count set = length (states_in 256 set.words)
-
-pairs_first : (row : StateSet) (rows : List StateSet) (n : ℕ) → pairs_of (row ∷ rows) (suc n) ≡ states_count row + pairs_of rows n
-unfolding pairs_of entry_at
-pairs_first row rows zero = omega arith
-pairs_first row rows (suc n) = rw (pairs_first row rows n, add_assoc) refl
-
-pairs_none : (n : ℕ) → pairs_of [] n ≡ 0
-unfolding pairs_of entry_at states_in
-pairs_none zero = refl
-pairs_none (suc n) = rw (pairs_none n, keep_none (member empty_set) (from 0 256) (each_from _ 0 256 (λ q a b. member_empty q b))) refl
-
-pub pairs_summed : (rows : List StateSet) (n : ℕ) → pairs_of rows n ≡ sum_by states_count (take n rows)
-pairs_summed rows zero = unfold pairs_of in refl
-pairs_summed [] (suc n) = pairs_none (suc n)
-pairs_summed (row ∷ rows) (suc n) =
-    pairs_first row rows n ∙ ap (λ (m : ℕ). states_count row + m) (pairs_summed rows n)
-    ∙ sym (sum_by-cons states_count row (take n rows))
-
-pub pairs_few : (rows : List StateSet) (n : ℕ) → pairs_of rows n ≤ 256 * n
-unfolding pairs_of states_in
-pairs_few rows zero = omega arith
-pairs_few rows (suc n) =
-    omega (arith, pairs_few rows n, keep_shorter (member (entry_at rows n)) (from 0 256), length_from 0 256)
+pub pairs_few : (rows : List StateSet) → pairs_of rows ≤ 256 * length rows
+unfolding states_in
+pairs_few [] = omega arith
+pairs_few (row ∷ rows) =
+    omega (arith, sum_by-cons states_count row rows, pairs_few rows, keep_shorter (member row.words) (from 0 256), length_from 0 256)
 
 -- The rows of any relation.
 
@@ -214,22 +207,21 @@ pub length_set : (set : List ℕ) → length (set_bytes set) ≡ 32
 unfolding set_bytes
 length_set set = length-map (from 0 32) (set_byte set) ∙ length_from 0 32
 
-pub length_bytes : (rows : List StateSet) (n : ℕ) → length (bytes_of rows n) ≡ 32 * n
-unfolding bytes_of
-length_bytes rows zero = refl
-length_bytes rows (suc n) = rw (length-append, length_bytes rows n, length_set) (omega arith)
+pub length_bytes : (rows : List StateSet) → length (bytes_of rows) ≡ 32 * length rows
+length_bytes [] = refl
+length_bytes (row ∷ rows) = rw (length-append, length_bytes rows, length_set) (omega arith)
 
--- The rows before n are those of all rows.
-pub entry_taken : (rows : List StateSet) (n q : ℕ) → q < n → entry_at (take n rows) q ≡ entry_at rows q
-unfolding entry_at
-entry_taken rows zero q h = absurd (omega arith)
-entry_taken [] (suc n) q h = refl
-entry_taken (row ∷ rows) (suc n) zero h = refl
-entry_taken (row ∷ rows) (suc n) (suc q) h = entry_taken rows n q (omega arith)
+bytes_more : (rows : List StateSet) (i : ℕ) (row : StateSet) → i < length rows → row ≡ get_or rows i row
+    → bytes_of (take (suc i) rows) ≡ bytes_of (take i rows) ++ set_bytes row.words
+bytes_more [] i row h is = absurd (omega arith)
+bytes_more (x ∷ xs) zero row h is = rw (← is) (append-nil _)
+bytes_more (x ∷ xs) (suc i) row h is = rw (bytes_more xs i row (omega arith) is) (sym (append_assoc (set_bytes x.words) (bytes_of (take i xs)) (set_bytes row.words)))
 
-pub bytes_next : (out : List ℕ) (rows : List StateSet) (now : List ℕ) (i : ℕ) (next : List ℕ) → now ≡ over out 0 (bytes_of rows i)
-    → next ≡ over now (32 * i) (set_bytes (entry_at rows i)) → 32 * i + 32 ≤ length out → next ≡ over out 0 (bytes_of rows (i + 1))
-bytes_next out rows now i next e f room =
-    over_then out 0 (bytes_of rows i) now (32 * i) (set_bytes (entry_at rows i)) next e f (omega (arith, length_bytes rows i))
-    (omega (arith, length_set (entry_at rows i)))
-    ∙ rw add-one (unfold bytes_of in refl)
+pub bytes_next : (out : List ℕ) (rows : List StateSet) (now : List ℕ) (i : ℕ) (row : StateSet) (next : List ℕ)
+    → now ≡ over out 0 (bytes_of (take i rows)) → next ≡ over now (32 * i) (set_bytes row.words)
+    → i < length rows → row ≡ get_or rows i row → 32 * length rows ≤ length out → next ≡ over out 0 (bytes_of (take (i + 1) rows))
+bytes_next out rows now i row next e f h is room =
+    let long : length (bytes_of (take i rows)) ≡ 32 * i = length_bytes (take i rows) ∙ ap (λ (n : ℕ). 32 * n) (length-take-le i rows (omega arith)) in
+    over_then out 0 (bytes_of (take i rows)) now (32 * i) (set_bytes row.words) next e f (omega (arith, long))
+    (omega (arith, long, length_set row.words))
+    ∙ rw (add-one, bytes_more rows i row h is) refl

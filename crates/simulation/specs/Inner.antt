@@ -1,8 +1,8 @@
 -- What the contracts of inner functions cite; no call for everybody cites any of it. Places that an
 -- array does not have, where `get_or` would give its default, are ruled out by the bounds in the contracts that cite these.
-use Rattle.std.specs.Prelude.{ℕ, zero, suc, ◌+◌, ◌<◌, ◌≡◌, List, [], ◌++◌, true, false, length}
+use Rattle.std.specs.Prelude.{ℕ, ◌<◌, ◌≡◌, List, true, false, length}
+use Rattle.std.specs.List.{flat_map, sum_by}
 use Rattle.std.specs.Prelude.{Option, Some, None}
-use Rattle.sets.specs.Entries.{entry_at}
 use Rattle.sets.specs.Inner.{states_in, set_bytes}
 use Rattle.sets.specs.declared.set.StateSet.{StateSet}
 use Rattle.automaton.specs.Automaton.{Rule}
@@ -11,15 +11,13 @@ use Rattle.refinement.specs.Simulation.{Relation, related}
 use Rattle.refinement.specs.Inner.{answered}
 use Rattle.simulation.specs.Query.{is_yes, compared_by}
 
--- The bytes of the first n rows of a relation.
-unfoldable pub bytes_of : List StateSet → ℕ → List ℕ
-bytes_of rows zero = []
-bytes_of rows (suc n) = bytes_of rows n ++ set_bytes (entry_at rows n)
+-- The bytes of some rows, in order.
+abbrev pub bytes_of : List StateSet → List ℕ
+bytes_of rows = flat_map (λ (row : StateSet). set_bytes row.words) rows
 
--- How many pairs the first n rows hold.
-unfoldable pub pairs_of : List StateSet → ℕ → ℕ
-pairs_of rows zero = 0
-pairs_of rows (suc n) = pairs_of rows n + length (states_in 256 (entry_at rows n))
+-- How many pairs some rows hold.
+abbrev pub pairs_of : List StateSet → ℕ
+pairs_of rows = sum_by (λ (row : StateSet). length (states_in 256 row.words)) rows
 
 -- Number i is the first rule of q that no rule of r matches; or there is none, and each has a match.
 unfoldable pub FirstUnmatched : List Rule → Relation → ℕ → ℕ → Option ℕ → Type 0

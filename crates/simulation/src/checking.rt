@@ -1,10 +1,9 @@
 // Checking a tree against a table, and the counts of the answers.
-ghost use Rattle.std.specs.Prelude.{ℕ, ◌≡◌, ◌≤◌, ◌+◌, ◌*◌, length};
+ghost use Rattle.std.specs.Prelude.{ℕ, ◌≡◌, ◌≤◌, ◌*◌, length};
 ghost use Rattle.trees.specs.Answers.{acceptance_of, finding_of};
 ghost use Rattle.simulation.specs.Check as spec;
 
 use automaton::{FEW_RULES, RULES, Refusal, Row, decode};
-use indexing::{FEW_INDEX, INDEX};
 use trees::{Answer, accept_tree};
 
 // How many checks got each answer (document 01: the "gate"). A count stays at 4,294,967,295.
@@ -80,23 +79,19 @@ fn check_tree(table: &[u8], tree: &[u8]) -> Result<Answer, Refusal>
     ensures { finding_of result ≡ spec.finding table.now tree.now }
 {
     if table.len() <= 1280 {
-        check_tree_in::<FEW_RULES, FEW_INDEX>(table, tree)
+        check_tree_in::<FEW_RULES>(table, tree)
     } else {
-        check_tree_in::<RULES, INDEX>(table, tree)
+        check_tree_in::<RULES>(table, tree)
     }
 }
 
 // The same, with arrays for so many rules.
-fn check_tree_in<const R: usize, const I: usize>(
-    table: &[u8],
-    tree: &[u8],
-) -> Result<Answer, Refusal>
-    requires few { (R ≤ 1024) × ((257 ≤ I) × (I ≤ 1281)) }
-    requires room { (k : ℕ) → k ≤ 1024 → 10 * k ≤ length table.now → (k ≤ R) × (257 + k ≤ I) }
+fn check_tree_in<const R: usize>(table: &[u8], tree: &[u8]) -> Result<Answer, Refusal>
+    requires few { R ≤ 1024 }
+    requires room { (k : ℕ) → k ≤ 1024 → 10 * k ≤ length table.now → k ≤ R }
     ensures { finding_of result ≡ spec.finding table.now tree.now }
 {
     let mut rows = [Row::EMPTY; R];
-    let mut index = [0; I];
     let decoded = decode(table, &mut rows)?;
-    accept_tree(&decoded, &mut index, tree)
+    accept_tree::<R>(&decoded, tree)
 }

@@ -4,14 +4,13 @@ ghost use Rattle.lists.specs.Over.{over};
 ghost use Rattle.automaton.specs.Table.{judge};
 ghost use Rattle.automaton.specs.Automaton.{Rule};
 ghost use Rattle.automaton.specs.Row.{rules_of};
-ghost use Rattle.indexing.specs.Index.{keyed};
-ghost use Rattle.refinement.specs.Inner.{relation_in, Answering};
+ghost use Rattle.indexing.specs.Index.{Indexes};
 ghost use Rattle.records.specs.Answers.{reading_of};
 ghost use Rattle.simulation.specs.Query.{simulation_of, rounds_of, relation_query, relation_after, Compares};
 ghost use Rattle.simulation.specs.Inner.{bytes_of, pairs_of, FirstUnmatched, ComparedBy};
 
 use automaton::{RULES, Row, Table, decode};
-use indexing::{ByTarget, INDEX, index_rules, numbers_of};
+use indexing::{ByTarget, Index};
 use records::Refusal;
 use refinement::{Relation, simulate};
 use sets::StateSet;
@@ -23,34 +22,34 @@ pub struct Related {
     pub pairs: usize,
 }
 
-// The rows of n states at the start of `out`, the bytes of their words in order.
-fn put_rows(relation: &Relation, n: usize, out: &mut [u8])
-    requires n_bound { n ≤ 256 }
-    requires n_in_bounds { 32 * n ≤ length out.old }
-    ensures { out.new ≡ over out.old 0 (bytes_of relation.now.rows n) }
+// The bytes of some rows of states, in order, at the start of `out`.
+fn put_rows(rows: &[StateSet], out: &mut [u8])
+    requires { 32 * length rows.now ≤ length out.old }
+    ensures { out.new ≡ over out.old 0 (bytes_of rows.now) }
 {
-    for (q, row) in relation.rows[..n].iter().enumerate() {
+    for (q, row) in rows.iter().enumerate() {
         out[32 * q..32 * q + 32].copy_from_slice(&row.bytes());
     }
 }
 
-// How many pairs the rows of n states hold.
-fn count_pairs(relation: &Relation, n: usize) -> usize
-    requires { n ≤ 256 }
-    ensures { result ≡ pairs_of relation.now.rows n }
+// How many pairs some rows hold.
+fn count_pairs(rows: &[StateSet]) -> usize
+    requires { length rows.now ≤ 256 }
+    ensures { result ≡ pairs_of rows.now }
 {
-    relation.rows[..n].iter().map(|row| row.len()).sum()
+    rows.iter().map(|row| row.len()).sum()
 }
 
-// The simulation preorder of all states of a decoded table; returns its rounds, and leaves the index by target.
-fn simulate_all(table: &Table, index: &mut [u16; INDEX], relation: &mut Relation) -> usize
+// The simulation preorder of all states of a decoded table; returns its rounds, and leaves the index of the rules by target.
+fn simulate_all(table: &Table, index: &mut Index<RULES>, relation: &mut Relation) -> usize
     ensures value { result ≡ rounds_of table.now }
-    ensures relation_after { relation_in relation.new.rows ≡ simulation_of table.now }
-    ensures answering { Answering table.now.rules table.now.states index.new }
+    ensures relation_after { relation.new ≡ simulation_of table.now }
+    ensures indexed { Indexes (λ (u : Rule). u.target) table.now.rules index.new }
 {
-    let n = table.size().states;
-    index_rules::<ByTarget>(table.rules(), n, index);
-    simulate(StateSet::below(n), n, table.rules(), index, relation)
+    let states = StateSet::below(table.size().states);
+    let rules = table.rules();
+    index.fill::<ByTarget>(rules);
+    simulate(states, rules, index, relation)
 }
 
 // Writes the simulation preorder of a table's states to the start of `out`, 32 bytes to a state, and returns its rounds
@@ -66,22 +65,29 @@ pub fn relate(table: &[u8], out: &mut [u8]) -> Result<Related, Refusal>
     if out.len() < 32 * n {
         return Err(Refusal::ShortOutput);
     }
-    let mut index = [0; INDEX];
+    let mut index = Index::empty();
     let mut relation = Relation::empty();
     let rounds = simulate_all(&decoded, &mut index, &mut relation);
-    put_rows(&relation, n, out);
+    let related = &relation.rows()[..n];
+    put_rows(related, out);
     Ok(Related {
         rounds,
-        pairs: count_pairs(&relation, n),
+        pairs: count_pairs(related),
     })
 }
 
-// The number of the first rule of q that is matched by none of some rules, by their numbers, if there is one.
-fn first_unmatched(relation: &Relation, rules: &[Row], q: u8, numbers: &[u16]) -> Option<usize>
-    requires { (r : ℕ) × (numbers.now ≡ keyed (λ (u : Rule). u.target) (rules_of rules.now) r) }
-    ensures { (r : ℕ) → numbers.now ≡ keyed (λ (u : Rule). u.target) (rules_of rules.now) r
-        → FirstUnmatched (rules_of rules.now) (relation_in relation.now.rows) q r result }
+// The number of the first rule of q that no rule of r matches, if there is one; with an index of the rules by target.
+fn first_unmatched(
+    relation: &Relation,
+    rules: &[Row],
+    index: &Index<RULES>,
+    q: u8,
+    r: u8,
+) -> Option<usize>
+    requires { Indexes (λ (u : Rule). u.target) (rules_of rules.now) index.now }
+    ensures { FirstUnmatched (rules_of rules.now) relation.now q r result }
 {
+    let numbers = index.numbers(r);
     rules.iter().position(|rule| rule.target() == q && !relation.has_match(rule, rules, numbers))
 }
 
@@ -90,14 +96,13 @@ fn compare_states(table: &Table, q: u8, r: u8) -> Option<usize>
     requires { (q < table.now.states) × (r < table.now.states) }
     ensures { ComparedBy table.now.rules (simulation_of table.now) q r result }
 {
-    let mut index = [0; INDEX];
+    let mut index = Index::empty();
     let mut relation = Relation::empty();
     simulate_all(table, &mut index, &mut relation);
     if relation.has(q, r) {
         return None;
     }
-    let numbers = numbers_of(&index, usize::from(r));
-    first_unmatched(&relation, table.rules(), q, numbers)
+    first_unmatched(&relation, table.rules(), &index, q, r)
 }
 
 // None if state q is simulated by state r; otherwise the number of the first rule of q that no rule of r matches.

@@ -1,6 +1,4 @@
 // What the calls of `automaton` find in some bytes, a line each.
-ghost use Rattle.std.specs.Prelude.{◌≤◌, ◌<◌, IfSome, length};
-
 use automaton::{Opened, RULES, Refusal, Row, Table};
 use cases::{add_all, line, write_spaced};
 use std::io;
@@ -20,7 +18,7 @@ fn records<W: Write>(out: &mut W, t: &[u8]) -> io::Result<()> {
     let mut rest = t;
     let mut count: u64 = 0;
     let mut sum: u64 = 0;
-    while let Some(Opened { kind, end }) = first_record(rest) {
+    while let Ok(Some(Opened { kind, end })) = automaton::open(rest) {
         sum = add_all(sum, &kind.to_le_bytes());
         sum = add_all(sum, automaton::body(rest));
         rest = &rest[end..];
@@ -29,16 +27,6 @@ fn records<W: Write>(out: &mut W, t: &[u8]) -> io::Result<()> {
     out.write_all(b"records")?;
     write_spaced(out, &[count, sum])?;
     ending(out, rest)
-}
-
-// The first record; none where no record opens.
-fn first_record(t: &[u8]) -> Option<Opened>
-    ensures { IfSome result (λ found. 0 < found.end × (found.end ≤ length t.now)) }
-{
-    match automaton::open(t) {
-        Ok(found) => found,
-        Err(_) => None,
-    }
 }
 
 // What stands where no record opens.
@@ -79,11 +67,8 @@ fn decoded<W: Write>(out: &mut W, bytes: usize, table: &Table) -> io::Result<()>
 
 fn print_finals<W: Write>(out: &mut W, table: &Table) -> io::Result<()> {
     out.write_all(b"finals")?;
-    let n = table.size().states;
     for q in table.finals().states() {
-        if usize::from(q) < n {
-            write_spaced(out, &[q])?;
-        }
+        write_spaced(out, &[q])?;
     }
     out.write_all(b"\n")
 }

@@ -14,9 +14,9 @@ fn main(rt: HostRuntime) -> io::Result<()> {
 // What follows a case's name: false where the input has ended.
 fn one<R: Read, W: Write>(input: &mut R, out: &mut W) -> io::Result<bool> {
     let mut bytes = [0u8; 65536];
-    let Some(length) = cases::next_field(input, 4, &mut bytes)? else {
+    let Some(table) = cases::next_field(input, 4, &mut bytes)? else {
         return Ok(false);
     };
-    case::report(out, &bytes[..length])?;
+    case::report(out, table)?;
     Ok(true)
 }

@@ -55,7 +55,7 @@ pub record Walks : Type 0 where
   pub whole : advance_all T start (1 ∷ 0 ∷ 2 ∷ []) ≡ found (walk (tree (3 ∷ []) 3 ∷ []) 3 nowhere)
   pub final : closing T (walk (tree (3 ∷ []) 3 ∷ []) 3 nowhere) ≡ found accepted
   -- In an array, after b and a: sets in words, starts for sizes; what stands behind the second tree has no part in it.
-  pub in_arrays : walk_in (entry 4 0 (lit< tt) (lit< tt) ∷ entry 7 1 (lit< tt) (lit< tt) ∷ entry 8 5 (lit< tt) (lit< tt) ∷ []) (record { height = 2; nodes = 2; first = None })
+  pub in_arrays : walk_in (entry 4 0 (lit< tt) (lit< tt) ∷ entry 7 1 (lit< tt) (lit< tt) ∷ entry 8 5 (lit< tt) (lit< tt) ∷ []) 2 2 None
       ≡ walk (tree (0 ∷ 1 ∷ 2 ∷ []) 1 ∷ tree (2 ∷ []) 1 ∷ []) 2 nowhere
   -- f(f(a,a),a) of B8 belongs to no state: it is noted, and stays noted when f and b follow.
   pub without_state : advance_all T start (0 ∷ 0 ∷ 2 ∷ 0 ∷ 2 ∷ []) ≡ found (walk (tree [] 5 ∷ []) 5 (first_at 4 5))

@@ -9,10 +9,9 @@ use Rattle.records.specs.Read.{found, map_read}
 use Rattle.automaton.specs.Automaton.{Automaton, WellFormed}
 use Rattle.trees.specs.Postfix.{push_all}
 use Rattle.trees.specs.Walk.{Walk, start, sizes_of, advance_all}
-use Rattle.trees.specs.Inner.{StackRoom, tree_finding}
-use Rattle.trees.specs.Holds.{walk_finding, walk_of, Holding, SameUpTo, HoldableWalk}
+use Rattle.trees.specs.Inner.{tree_finding}
+use Rattle.trees.specs.Holds.{walk_finding, walk_of, Held, StackRoom, Holding, SameUpTo, HoldableWalk}
 use Rattle.trees.specs.declared.entry.Entry.{Entry}
-use Rattle.trees.specs.declared.evaluation.Held.{Held}
 use Rattle.trees.proofs.Walking as walking
 use Rattle.trees.proofs.evaluation.Holding as holding
 

@@ -27,7 +27,7 @@ use Rattle.trees.specs.Tree.{Tree, node, belongs, belong_in_order, accepts}
 use Rattle.trees.specs.Postfix.{trees_in, rank_on, push, push_all, single, is_tree_record, judge_tree, postfix, postfixes}
 use Rattle.trees.specs.Subtree.{subtrees, has_state, First, nowhere, first_at, first_bad, finding_in}
 use Rattle.trees.specs.Walk.{Waiting, Walk, start, have_in_order, leads_to, sizes_of, joined, is_none, noted, onto, advance, advance_all, closing}
-use Rattle.trees.specs.Inner.{Holdable, nodes_finding, tree_finding}
+use Rattle.trees.specs.Inner.{nodes_finding, tree_finding}
 use Rattle.trees.specs.Holds as holds
 use Rattle.trees.specs.Holds.{walk_finding, read_trees, StatesBelow, FirstBelow}
 use Rattle.trees.proofs.Postfix.{ranked}
@@ -173,36 +173,6 @@ module _ (A : Automaton) (wf : WellFormed A) where
       go true false = refl
       go false few = refl
 
--- What can be held.
-module _ (A : Automaton) where
-  pub start_holdable : Holdable A start
-  unfolding start
-  start_holdable = record { states = none; few = omega arith; waiting = omega arith }
-
-  pub advance_holdable : (w : Walk) (f : ℕ) {next : Walk} → Holdable A w → advance A w f ≡ found next → Holdable A next
-  unfolding advance onto joined
-  advance_holdable w f h e =
-      let (r, passed, is) = bind_found (rank_on A.ranks (length w.stack) f) _ e in
-      let p = ranked A.ranks (length w.stack) f passed in
-      rw (← found_same is) record {
-        states = also {x = joined A f (reverse (take r w.stack))} (member_all _ (λ q m. omega (arith, member_from A.states 0 q (keep_out _ (from 0 A.states) m).0))) (all_drop r w.stack h.states);
-        few = omega (arith, length-drop r w.stack, h.few);
-        waiting = omega (arith, length-drop r w.stack, p.few);
-      }
-
-  pub advance_counts : (w : Walk) (f : ℕ) {next : Walk} → advance A w f ≡ found next → next.nodes ≡ w.nodes + 1
-  unfolding advance onto
-  advance_counts w f e =
-      let (r, passed, is) = bind_found (rank_on A.ranks (length w.stack) f) _ e in
-      rw (← found_same is) (sym (add-one w.nodes))
-
-  pub walked_holdable : (w : Walk) (fs : List ℕ) {last : Walk} → Holdable A w → advance_all A w fs ≡ found last → Holdable A last
-  unfolding advance_all
-  walked_holdable w [] h e = rw (← found_same e) h
-  walked_holdable w (f ∷ fs) h e =
-      let (next, one, more) = bind_found (advance A w f) _ e in
-      walked_holdable next fs (advance_holdable w f h one) more
-
 -- The sizes of the trees that a node takes off the stack and of those that it leaves.
 sizes_parts : (r : ℕ) (ws : List Waiting) → sizes_of (reverse (take r ws)) + sizes_of (drop r ws) ≡ sizes_of ws
 unfolding sizes_of
@@ -231,6 +201,12 @@ pub record Invariant (A : Automaton) (w : Walk) : Type 0 where
   pub first : FirstBelow (suc w.nodes) w.first
 
 module _ (A : Automaton) where
+  pub advance_counts : (w : Walk) (f : ℕ) {next : Walk} → advance A w f ≡ found next → next.nodes ≡ w.nodes + 1
+  unfolding advance onto
+  advance_counts w f e =
+      let (r, passed, is) = bind_found (rank_on A.ranks (length w.stack) f) _ e in
+      rw (← found_same is) (sym (add-one w.nodes))
+
   pub start_invariant : Invariant A start
   unfolding start sizes_of FirstBelow
   start_invariant = record { states = none; sizes = refl; few = omega arith; waiting = omega arith; first = tt }
@@ -257,4 +233,4 @@ module _ (A : Automaton) where
   walked_invariant w (f ∷ fs) h e =
       let (next, one, more) = bind_found (advance A w f) _ e in
       let (after, counts) = walked_invariant next fs (advance_invariant w f h one) more in
-      (after, omega (arith, advance_counts A w f one))
+      (after, omega (arith, advance_counts w f one))

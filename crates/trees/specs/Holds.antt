@@ -1,6 +1,6 @@
 -- What is held between nodes, by the trees that were read and by the stack; and what the walk finds of a tree in bytes. No contract cites any of it:
 -- proofs/Theorems.antt is about it.
-use Rattle.std.specs.Prelude.{ℕ, zero, suc, ◌+◌, ◌^◌, ◌≤◌, ◌<◌, ◌≡◌, List, map, reverse, length, leb}
+use Rattle.std.specs.Prelude.{ℕ, zero, suc, ◌+◌, ◌^◌, ◌≤◌, ◌<◌, ◌≡◌, List, min, map, reverse, length, leb, Option}
 use Rattle.lists.specs.Lists.{All, Rising, from, keep}
 use Rattle.records.specs.Bytes.{numbers}
 use Rattle.records.specs.Record.{opened, body_of}
@@ -10,9 +10,9 @@ use Rattle.trees.specs.Tree.{Tree, belongs}
 use Rattle.trees.specs.Postfix.{trees_in, is_tree_record, postfix}
 use Rattle.trees.specs.Subtree.{subtrees_in, First, nowhere, first_at, first_of, first_bad, Finding}
 use Rattle.trees.specs.Walk.{Waiting, Walk, sizes_of}
-use Rattle.trees.specs.Inner.{StackRoom, set_at, start_at, walk_in, nodes_finding}
+use Rattle.trees.specs.Inner.{set_at, start_at, walk_in, nodes_finding}
 use Rattle.trees.specs.declared.entry.Entry.{Entry}
-use Rattle.trees.specs.declared.evaluation.Held.{Held}
+use Rattle.trees.specs.declared.evaluation.Subtree.{Subtree}
 
 -- What the walk finds of a tree in bytes: 8, then the node limit (11), from the record and its length; then the walk over the body's symbols.
 unfoldable pub walk_finding : Automaton → List ℕ → Read Finding
@@ -32,6 +32,16 @@ waiting_of A t = record { states = keep (belongs A.rules t) (from 0 A.states); s
 -- Of the trees on a stack: that of each, how many nodes were read, and the first of them whose tree belongs to no state.
 unfoldable pub walk_of : Automaton → List Tree → Walk
 walk_of A trees = record { stack = map (waiting_of A) trees; nodes = length (read_trees trees); first = first_bad A 0 (read_trees trees) }
+
+-- What is held beside an array: the height of the stack in it, how many nodes there were, and the first of them whose tree belongs to no state.
+pub record Held : Type 0 where
+  pub height : ℕ
+  pub nodes : ℕ
+  pub first : Option Subtree
+
+-- Room on the stack for n trees, or for 1,024 where n is greater.
+abbrev pub StackRoom : ℕ → List Entry → Type 0
+StackRoom n stack = min n 1024 ≤ length stack
 
 -- So many trees stand one after the other up to an end: none ends before it starts. Unlike with `Consecutive`, the lowest may start after 0.
 unfoldable pub Following : List Entry → ℕ → ℕ → Type 0
@@ -55,7 +65,7 @@ FirstBelow n (first_at i size) = (i < n) × (size < n)
 pub record Holding (stack : List Entry) (held : Held) (w : Walk) : Type 0 where
   pub fits : FitsArray stack held
   pub first : FirstBelow (2 ^ 64) (first_of held.first)
-  pub holds : walk_in stack held ≡ w
+  pub holds : walk_in stack held.height held.nodes held.first ≡ w
 
 -- Arrays with the same sets and starts up to a height.
 abbrev pub SameUpTo : ℕ → List Entry → List Entry → Type 0

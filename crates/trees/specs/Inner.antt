@@ -1,14 +1,10 @@
 -- What the contracts of evaluation cite; no call for everybody cites any of it. Places that a stack does not have, where `set_at` and `start_at` would
--- give their defaults, and differences below 0, where `-` would give 0, are ruled out by the bounds in the contracts that cite these. Only the closing
--- takes any starts: it looks at no size.
-use Rattle.std.specs.Prelude.{ℕ, zero, suc, ◌-◌, ◌*◌, ◌≤◌, ◌<◌, ◌≡◌, List, [], ◌∷◌, Bool, true, ◌&&◌, min, map, length, drop, get_or, eqb, Result, Ok, Err}
-use Rattle.lists.specs.Lists.{All}
+-- give their defaults, and differences below 0, where `-` would give 0, are ruled out by what holds of every walk (`Fills`).
+use Rattle.std.specs.Prelude.{ℕ, zero, suc, ◌-◌, ◌*◌, ◌≤◌, ◌≡◌, List, [], ◌∷◌, Bool, true, ◌&&◌, map, drop, get_or, eqb, Option}
 use Rattle.sets.specs.Set.{member, words}
 use Rattle.sets.specs.Entries.{entry_at}
 use Rattle.sets.specs.Inner.{states_in}
-use Rattle.records.specs.Answers.{reading_of}
-use Rattle.records.specs.Read.{Read, found, map_read, ◌>>=◌}
-use Rattle.records.specs.declared.refusal.Refusal.{Refusal}
+use Rattle.records.specs.Read.{Read, found, ◌>>=◌}
 use Rattle.automaton.specs.Automaton.{Rule, Automaton, WellFormed}
 use Rattle.automaton.specs.Row.{rule_at}
 use Rattle.indexing.specs.Index.{Indexes}
@@ -16,16 +12,13 @@ use Rattle.trees.specs.Postfix.{judge_tree}
 use Rattle.trees.specs.Subtree.{Finding, first_of, finding_in}
 use Rattle.trees.specs.Walk.{Waiting, Walk, start, advance_all, closing}
 use Rattle.trees.specs.declared.entry.Entry.{Entry}
-use Rattle.trees.specs.declared.evaluation.Held.{Held}
+use Rattle.trees.specs.declared.evaluation.Subtree.{Subtree}
 
--- What evaluation works on: a well-formed automaton, and the index of its rules by symbol.
-pub record Evaluable (A : Automaton) (index : List ℕ) : Type 0 where
+-- What evaluation works on: a well-formed automaton, and the index by symbol of its rules, with places for n, at most 1,024.
+pub record Evaluable (n : ℕ) (A : Automaton) (index : List (List ℕ)) : Type 0 where
+  pub places : n ≤ 1024
   pub well_formed : WellFormed A
-  pub index_is : Indexes (λ (u : Rule). u.symbol) A.rules (length A.ranks) index
-
--- Room on the stack for n trees, or for 1,024 where n is greater.
-abbrev pub StackRoom : ℕ → List Entry → Type 0
-StackRoom n stack = min n 1024 ≤ length stack
+  pub index_is : Indexes (λ (u : Rule). u.symbol) A.rules index
 
 -- The set of the states of tree e of a stack, and its start.
 unfoldable pub set_at : List Entry → ℕ → List ℕ
@@ -58,11 +51,8 @@ stack_by sets starts (suc e) end = record { states = states_in 256 (sets e); siz
 abbrev pub stack_in : List Entry → ℕ → ℕ → List Waiting
 stack_in stack h end = stack_by (set_at stack) (start_at stack) h end
 
-unfoldable pub walk_in : List Entry → Held → Walk
-walk_in stack held = record { stack = stack_in stack held.height held.nodes; nodes = held.nodes; first = first_of held.first }
-
-unfoldable pub stepped_of : List Entry → Result Held Refusal → Read Walk
-stepped_of stack r = map_read (walk_in stack) (reading_of r)
+unfoldable pub walk_in : List Entry → ℕ → ℕ → Option Subtree → Walk
+walk_in stack h nodes first = record { stack = stack_in stack h nodes; nodes = nodes; first = first_of first }
 
 -- So many trees, by their starts, fill the nodes up to an end: the lowest starts at 0, each other one where the one under it ends, and none ends before
 -- it starts. Without trees there are no nodes.
@@ -74,22 +64,18 @@ ConsecutiveBy starts (suc e) end = (starts e ≤ end) × ConsecutiveBy starts e 
 abbrev pub Consecutive : List Entry → ℕ → ℕ → Type 0
 Consecutive stack h end = ConsecutiveBy (start_at stack) h end
 
--- The same of what a step leaves; a refusal leaves nothing.
-unfoldable pub LeavesConsecutive : List Entry → Result Held Refusal → Type 0
-LeavesConsecutive stack (Ok held) = Consecutive stack held.height held.nodes
-LeavesConsecutive stack (Err cause) = Unit {0}
+-- What holds of every walk in an array for n trees, at most 1,024: its trees are no more than that, no more than the nodes, and fill the nodes.
+pub record Fills (n : ℕ) (stack : List Entry) (h nodes : ℕ) : Type 0 where
+  pub places : n ≤ 1024
+  pub room : h ≤ n
+  pub few : h ≤ nodes
+  pub consecutive : Consecutive stack h nodes
 
 -- The start of a node's tree, which is the number of its leftmost leaf: the node itself, if it has no children, and otherwise the start of the first of
 -- them.
 unfoldable pub start_of : List Entry → ℕ → ℕ
 start_of [] node = node
 start_of (t ∷ ts) node = t.start
-
--- What holds of every walk with an automaton: its trees belong to states of the automaton alone, they are no more than the nodes, and at most 1,024.
-pub record Holdable (A : Automaton) (w : Walk) : Type 0 where
-  pub states : All (λ (t : Waiting). All (λ (q : ℕ). q < A.states) t.states) w.stack
-  pub few : length w.stack ≤ w.nodes
-  pub waiting : length w.stack ≤ 1024
 
 -- What the walk finds of some symbols; and what an automaton finds of a tree in bytes.
 unfoldable pub nodes_finding : Automaton → List ℕ → Read Finding

@@ -4,6 +4,5 @@ pub mod Postfix
 pub mod Subtree
 pub mod Walk
 pub mod Inner
-pub mod Evaluated
 pub mod Holds
 pub mod Run

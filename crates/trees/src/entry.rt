@@ -1,7 +1,7 @@
 // What the walk holds of a finished tree.
 ghost use Rattle.std.specs.Prelude.{ℕ, ◌<◌};
 
-use sets::StateSet;
+use sets::{StateSet, is_member};
 
 // The set of the states that the tree belongs to, and its start: how many nodes stand before it.
 #[derive(Clone, Copy)]
@@ -27,7 +27,6 @@ impl Entry {
     pub fn belongs(&self, q: u8) -> bool
         ensures { result ≡ member self.now.states.words q }
     {
-        let word = self.states.words[usize::from(q / 64)];
-        (word >> (q % 64)) % 2 == 1
+        is_member(&self.states.words, q)
     }
 }

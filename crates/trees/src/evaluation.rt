@@ -9,21 +9,22 @@ ghost use Rattle.sets.specs.Set.{empty_set, same_set, with_state};
 ghost use Rattle.sets.specs.Inner.{Has};
 ghost use Rattle.records.specs.Bytes as bytes;
 ghost use Rattle.records.specs.Record.{opened};
-ghost use Rattle.automaton.specs.Automaton.{WellFormed};
+ghost use Rattle.records.specs.Answers.{reading_of};
+ghost use Rattle.automaton.specs.Automaton.{Rule, WellFormed};
 ghost use Rattle.automaton.specs.Row.{rule_at};
+ghost use Rattle.indexing.specs.Index.{Indexes};
 ghost use Rattle.trees.specs.Postfix.{is_tree_record};
-ghost use Rattle.trees.specs.Walk as walk;
+ghost use Rattle.trees.specs.Walk as spec;
 ghost use Rattle.trees.specs.Walk.{advance, advance_all, closing};
 ghost use Rattle.trees.specs.Subtree.{first_of};
 ghost use Rattle.trees.specs.Answers.{finding_of};
 ghost use Rattle.trees.specs.declared.entry.Entry.{Entry};
 ghost use Rattle.trees.specs.Inner as inner;
-ghost use Rattle.trees.specs.Inner.{in_order, rule_gives, StackRoom, Consecutive, LeavesConsecutive};
-ghost use Rattle.trees.specs.Inner.{walk_in, stepped_of, Holdable, nodes_finding, tree_finding};
+ghost use Rattle.trees.specs.Inner.{in_order, rule_gives, nodes_finding, tree_finding};
 
 use crate::entry::Entry;
-use automaton::{Row, Table};
-use indexing::{BySymbol, index_rules, numbers_of};
+use automaton::Table;
+use indexing::{BySymbol, Index};
 use records::{Kind, Opened, Refusal, body, number2, open};
 use sets::StateSet;
 use std::marker::Model;
@@ -40,15 +41,6 @@ pub struct Subtree {
 pub enum Answer {
     Accepted,
     Rejected(Subtree),
-}
-
-// What the walk holds between nodes, beside the stack: its height, how many nodes there were, and the first of them whose tree belongs to no state,
-// with the size of that tree.
-#[derive(Clone, Copy, Debug, PartialEq, Eq)]
-pub struct Held {
-    pub height: usize,
-    pub nodes: usize,
-    pub first: Option<Subtree>,
 }
 
 // Whether the children are states of the trees, one each and in order. At most two children, the most frequent cases, go without a loop; no branch hangs
@@ -115,7 +107,7 @@ fn start_of(children: &[Entry], node: usize) -> u16
 // The first node whose tree belongs to no state, after one more, whose tree has this start and belongs to these states.
 fn noted(first: Option<Subtree>, node: usize, start: usize, states: StateSet) -> Option<Subtree>
     requires { (start ≤ node) × (node < 16384) }
-    ensures { first_of result ≡ walk.noted (first_of first) node (node + 1 - start) (same_set states.words empty_set) }
+    ensures { first_of result ≡ spec.noted (first_of first) node (node + 1 - start) (same_set states.words empty_set) }
 {
     if first.is_none() && states.is_empty() {
         return Some(Subtree {
@@ -126,56 +118,82 @@ fn noted(first: Option<Subtree>, node: usize, start: usize, states: StateSet) ->
     first
 }
 
-// What trees are evaluated against: a table, and the index of its rules by symbol.
+// What the walk holds between nodes: the trees that wait, on a stack for N of them, how many nodes there were, and the first of them whose tree belongs
+// to no state, with the size of that tree.
 #[derive(Drop)]
-struct Evaluator<'a> {
-    states: usize,
-    ranks: &'a [u8],
-    finals: StateSet,
-    rules: &'a [Row],
-    index: &'a [u16],
+struct Walk<'a, const N: usize> {
+    stack: &'a mut [Entry; N],
+    height: usize,
+    nodes: usize,
+    first: Option<Subtree>,
 }
 
-impl<'a> Model for Evaluator<'a> {
+impl<'a, const N: usize> Model for Walk<'a, N> {
+    ghost use Rattle.trees.specs.Walk as spec;
+    ghost use Rattle.trees.specs.Inner.{walk_in, Fills};
+
+    ghost Value = { spec.Walk };
+
+    ghost view = { λ w. walk_in w.stack.now w.height w.nodes w.first };
+
+    ghost invariant = { λ w. Fills N w.stack.now w.height w.nodes };
+}
+
+impl<'a, const N: usize> Walk<'a, N> {
+    // No node yet.
+    fn new(stack: &'a mut [Entry; N]) -> Walk<'a, N>
+        requires { N ≤ 1024 }
+        ensures { result ≡ spec.start }
+    {
+        Walk {
+            stack,
+            height: 0,
+            nodes: 0,
+            first: None,
+        }
+    }
+}
+
+// What trees are evaluated against: a table, and the index of its rules by symbol.
+#[derive(Drop)]
+struct Evaluator<'a, const R: usize> {
+    table: &'a Table<'a, 'a>,
+    index: &'a Index<R>,
+}
+
+impl<'a, const R: usize> Model for Evaluator<'a, R> {
     ghost use Rattle.automaton.specs.Automaton.{Automaton};
+    ghost use Rattle.trees.specs.Inner.{Evaluable};
 
     ghost Value = { Automaton };
 
-    ghost use Rattle.trees.specs.Evaluated.{automaton_of};
-    ghost use Rattle.trees.specs.Inner.{Evaluable};
+    ghost view = { λ t. t.table.now };
 
-    ghost view = { automaton_of };
-
-    ghost invariant = { λ t. Evaluable (automaton_of t) t.index.now };
+    ghost invariant = { λ t. Evaluable R t.table.now t.index.now };
 }
 
-impl<'a> Evaluator<'a> {
-    // Of a decoded table; the index is made in a lent array.
-    fn new(table: &'a Table, index: &'a mut [u16]) -> Evaluator<'a>
-        requires { 257 + length table.now.rules ≤ length index.old }
+impl<'a, const R: usize> Evaluator<'a, R> {
+    // Of a decoded table and the index of its rules.
+    fn new(table: &'a Table<'a, 'a>, index: &'a Index<R>) -> Evaluator<'a, R>
+        requires { (R ≤ 1024) × Indexes (λ (u : Rule). u.symbol) table.now.rules index.now }
         ensures value { result ≡ table.now }
         ensures well_formed { WellFormed result }
     {
-        let size = table.size();
-        let rules = table.rules();
-        index_rules::<BySymbol>(rules, size.symbols, index);
-        Evaluator {
-            states: size.states,
-            ranks: table.ranks(),
-            finals: table.finals(),
-            rules,
-            index,
-        }
+        // For the proof: a table's automaton is well-formed.
+        let _ = &table.rules;
+        Evaluator { table, index }
     }
 
     // The targets of those rules, by their numbers and each with one child for each of the trees, whose children are states of the trees, in order.
+    // Inlined, and the next one too: a set that comes back through memory is read in pairs of words, for which the processor would wait.
+    #[inline(always)]
     fn targets(&self, numbers: &[u16], trees: &[Entry]) -> StateSet
         requires { (i : ℕ) → Memᴰ i numbers.now → (i < length self.now.rules)
             × (length (rule_at self.now.rules i).children ≡ length trees.now) }
         ensures { Has result.words
             (λ (q : ℕ). any (rule_gives self.now.rules trees.now q) numbers.now) }
     {
-        let rules = self.rules;
+        let rules = self.table.rules();
         let mut spread = [0; 8];
         for i in numbers {
             let rule = &rules[usize::from(*i)];
@@ -188,6 +206,7 @@ impl<'a> Evaluator<'a> {
 
     // The same. In a walk no set is empty before the first tree without a state, so that sets are tested only from then on; where one is empty, no rule
     // is looked at.
+    #[inline(always)]
     fn states_over(&self, numbers: &[u16], trees: &[Entry], first: Option<Subtree>) -> StateSet
         requires { (i : ℕ) → Memᴰ i numbers.now → (i < length self.now.rules)
             × (length (rule_at self.now.rules i).children ≡ length trees.now) }
@@ -195,7 +214,7 @@ impl<'a> Evaluator<'a> {
             (λ (q : ℕ). any (rule_gives self.now.rules trees.now q) numbers.now) }
     {
         // For the proof: what holds of the value's fields.
-        let _ = &self.rules;
+        let _ = &self.table;
         if first.is_some() && has_empty(trees) {
             return StateSet::empty();
         }
@@ -203,77 +222,89 @@ impl<'a> Evaluator<'a> {
     }
 
     // One node: its tree takes the place of its children's on the stack.
-    fn step(&self, symbol: usize, stack: &mut [Entry], held: Held) -> Result<Held, Refusal>
-        requires height_bound { (held.height ≤ 1024) × StackRoom (held.height + 1) stack.old }
-        requires nodes_bound { (held.nodes < 16384) × Consecutive stack.old held.height held.nodes }
-        ensures result_after { stepped_of stack.new result
-            ≡ advance self.now (walk_in stack.old held) symbol }
-        ensures leaves_consecutive { LeavesConsecutive stack.new result }
+    fn step<'w, const N: usize>(
+        &self,
+        symbol: usize,
+        walk: Walk<'w, N>,
+    ) -> Result<Walk<'w, N>, Refusal>
+        requires { (walk.nodes < 16384) × (min (walk.nodes + 1) 1024 ≤ N) }
+        ensures { reading_of result ≡ advance self.now walk.entry symbol }
     {
-        let rank = *self.ranks.get(symbol).ok_or(Refusal::UnknownSymbol)?;
-        let e = held
-            .height
+        let Walk {
+            stack,
+            height,
+            nodes,
+            first,
+        } = walk;
+        let rank = *self
+            .table
+            .ranks()
+            .get(symbol)
+            .ok_or(Refusal::UnknownSymbol)?;
+        let e = height
             .checked_sub(usize::from(rank))
             .ok_or(Refusal::Unbalanced)?;
         if e >= 1024 {
             return Err(Refusal::TreeAboveLimit);
         }
-        let numbers = numbers_of(self.index, symbol);
-        let children = &stack[e..held.height];
-        let states = self.states_over(numbers, children, held.first);
-        let start = start_of(children, held.nodes);
+        let numbers = self.index.numbers(symbol as u8);
+        let trees = &stack[..];
+        let children = &trees[e..height];
+        let states = self.states_over(numbers, children, first);
+        let start = start_of(children, nodes);
         stack[e] = Entry { states, start };
-        Ok(Held {
+        Ok(Walk {
+            stack,
             height: e + 1,
-            nodes: held.nodes + 1,
-            first: noted(held.first, held.nodes, usize::from(start), states),
+            nodes: nodes + 1,
+            first: noted(first, nodes, usize::from(start), states),
         })
     }
 
-    // All nodes of a tree's body, one after the other, on an empty stack.
-    fn evaluate(&self, b: &[u8], stack: &mut [Entry]) -> Result<Held, Refusal>
-        requires { (length b.now / 2 ≤ 16384) × StackRoom (length b.now / 2) stack.old }
-        ensures { stepped_of stack.new result ≡ advance_all self.now walk.start (bytes.numbers b.now) }
+    // All nodes of a tree's body, one after the other.
+    #[inline(never)]
+    fn evaluate<'w, const N: usize>(
+        &self,
+        b: &[u8],
+        walk: Walk<'w, N>,
+    ) -> Result<Walk<'w, N>, Refusal>
+        requires { (walk.nodes + length b.now / 2 ≤ 16384) × (min (walk.nodes + length b.now / 2) 1024 ≤ N) }
+        ensures { reading_of result ≡ advance_all self.now walk.entry (bytes.numbers b.now) }
     {
-        let mut held = Held {
-            height: 0,
-            nodes: 0,
-            first: None,
-        };
+        let mut walk = walk;
         for symbol in b.chunks_exact(2) {
-            held = self.step(usize::from(number2(symbol, 0)), stack, held)?;
+            walk = self.step(usize::from(number2(symbol, 0)), walk)?;
         }
-        Ok(held)
+        Ok(walk)
     }
 
-    // The answer for the tree on the stack, if there is one alone. The subtree to be named is the first that belongs to no state, or the whole tree.
-    fn accept_stack(&self, held: Held, stack: &[Entry]) -> Result<Answer, Refusal>
-        requires { (1 ≤ length stack.now) × (held.height ≤ held.nodes) }
-        ensures { Holdable self.now (walk_in stack.now held)
-            → finding_of result ≡ closing self.now (walk_in stack.now held) }
+    // The answer for the tree that waits, if there is one alone. The subtree to be named is the first that belongs to no state, or the whole tree.
+    fn accept_stack<const N: usize>(&self, walk: &Walk<N>) -> Result<Answer, Refusal>
+        ensures { finding_of result ≡ closing self.now walk.now }
     {
-        if held.height != 1 {
+        if walk.height != 1 {
             return Err(Refusal::Unbalanced);
         }
-        if !stack[0].states.meet(self.finals).is_empty() {
+        let stack = &walk.stack[..];
+        if !stack[0].states.meet(self.table.finals()).is_empty() {
             return Ok(Answer::Accepted);
         }
         let whole = Subtree {
-            node: held.nodes - 1,
-            size: held.nodes,
+            node: walk.nodes - 1,
+            size: walk.nodes,
         };
-        Ok(Answer::Rejected(held.first.unwrap_or(whole)))
+        Ok(Answer::Rejected(walk.first.unwrap_or(whole)))
     }
 
     // The answer for a tree's body, on a stack for N trees, which are enough for its nodes.
     fn accept_nodes_in<const N: usize>(&self, b: &[u8]) -> Result<Answer, Refusal>
-        requires trees { (1 ≤ N) × (N ≤ 1024) }
+        requires trees { N ≤ 1024 }
         requires room { (length b.now / 2 ≤ 16384) × (min (length b.now / 2) 1024 ≤ N) }
         ensures { finding_of result ≡ nodes_finding self.now (bytes.numbers b.now) }
     {
         let mut stack = [Entry::EMPTY; N];
-        let held = self.evaluate(b, &mut stack)?;
-        self.accept_stack(held, &stack)
+        let walk = self.evaluate(b, Walk::new(&mut stack))?;
+        self.accept_stack(&walk)
     }
 
     // The answer for a tree's body; a body of at most 64 nodes gets a small stack, which is cleared sooner.
@@ -299,10 +330,9 @@ fn is_tree(t: &[u8]) -> bool
     kind == u16::from(Kind::Tree) && end == t.len() && body(t).len() % 2 == 0
 }
 
-// Whether a decoded table accepts a tree, and if not, the subtree to be named; or the tree's first cause of refusal. The index is made in a lent
-// array.
-pub fn accept_tree(table: &Table, index: &mut [u16], tree: &[u8]) -> Result<Answer, Refusal>
-    requires { 257 + length table.now.rules ≤ length index.old }
+// Whether a decoded table accepts a tree, and if not, the subtree to be named; or the tree's first cause of refusal. The index is for R rules.
+pub fn accept_tree<const R: usize>(table: &Table, tree: &[u8]) -> Result<Answer, Refusal>
+    requires { (length table.now.rules ≤ R) × (R ≤ 1024) }
     ensures { finding_of result ≡ tree_finding table.now tree.now }
 {
     if !is_tree(tree) {
@@ -312,5 +342,7 @@ pub fn accept_tree(table: &Table, index: &mut [u16], tree: &[u8]) -> Result<Answ
     if b.len() / 2 > 16384 {
         return Err(Refusal::TreeAboveLimit);
     }
-    Evaluator::new(table, index).accept_nodes(b)
+    let mut index = Index::<R>::empty();
+    index.fill::<BySymbol>(table.rules());
+    Evaluator::new(table, &index).accept_nodes(b)
 }

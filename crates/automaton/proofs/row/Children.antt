@@ -1,13 +1,13 @@
 -- The children of a rule: taken field by field from a rule's body, and renamed one after the other. By the elements so far; for the proofs of the
 -- functions that read and rename rows.
-use Prim.Native.Nat.{ℕ, zero, suc, ◌+◌, ◌-◌, ◌/◌, ◌≤◌, ◌<◌}
+use Prim.Native.Nat.{ℕ, ◌+◌, ◌-◌, ◌/◌, ◌≤◌, ◌<◌}
 use native.Mathlib.Decide.{ℕ_discrete, dec_lt}
 use native.Mathlib.Omega.{arith}
 use mathlib.Core.Path.{◌≡◌, sym, ap, ◌∙◌}
 use mathlib.Core.List.{List, [], ◌∷◌, ◌++◌, map, append_assoc, append-nil}
-use lib.ListN.{length, take, drop, get_or, set, replicate, get_or-eq_default, length-append, length-drop, length-map, length-set, length-take}
-use lib.Seq.{length-take-le, get_or-drop, get_or-set_same, get_or-set_other}
-use Rattle.std.proofs.lemmas.List.{get_or_at, get_or-replicate, take_more_set, take_all, drop_all}
+use lib.ListN.{length, take, drop, get_or, set, replicate, get_or-eq_default, length-append, length-drop, length-map, length-set}
+use lib.Seq.{ext_get_or, length-take-le, get_or-drop, get_or-set_same, get_or-set_other}
+use Rattle.std.proofs.lemmas.List.{get_or-map, get_or_at, get_or-replicate, take_more_set}
 use Rattle.lists.proofs.Elements.{all_at, all_first, all_rest}
 use Rattle.records.specs.Bytes.{number2, numbers}
 use Rattle.records.proofs.Fields.{two_numbers, length_numbers}
@@ -90,15 +90,8 @@ body_symbol b r = low_number b (all_first (rw (two_numbers b r.some) at r.low))
 pub body_target : (b : List ℕ) → RuleBody b → get_or b 2 0 ≡ number2 (drop 2 b)
 body_target b r = sym (get_or-drop 2 b 0 0) ∙ low_number (drop 2 b) (all_first (all_rest (rw (two_numbers b r.some) at r.low)))
 
--- The first i elements are mapped, and the others are left.
-module _ (f : ℕ → ℕ) (xs ys : List ℕ) (i : ℕ) (same : ys ≡ map f (take i xs) ++ drop i xs) where
-  pub length_mapped : length ys ≡ length xs
-  length_mapped = rw (same, length-append, length-map, length-take, length-drop) (omega arith)
-
-  pub all_mapped : length xs ≤ i → ys ≡ map f xs
-  all_mapped last = rw same (rw (take_all i xs last, drop_all i xs last, append-nil))
-
-pub bytes_map : (f : ℕ → ℕ) → ((x : ℕ) → f x < 256) → (xs : List ℕ) → Bytes (map f xs)
-bytes_map f low [] k = omega arith
-bytes_map f low (x ∷ xs) zero = low x
-bytes_map f low (x ∷ xs) (suc k) = bytes_map f low xs k
+-- A list whose elements are those of another, each mapped.
+pub mapped : (f : ℕ → ℕ) (xs ys : List ℕ) → length ys ≡ length xs → ((i : ℕ) → i < length xs → get_or ys i 0 ≡ f (get_or xs i 0)) → ys ≡ map f xs
+mapped f xs ys long each =
+    ext_get_or 0 ys (map f xs) (long ∙ sym (length-map xs f))
+    (λ i h. let within : i < length xs = omega (arith, long) in each i within ∙ sym (get_or-map f xs i 0 0 within))

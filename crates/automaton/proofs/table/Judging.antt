@@ -1,17 +1,16 @@
--- Rules judged one after the other, what stands behind the last one, and a table as its first three records and then its rules: what the proofs of the
--- functions that judge and decode share.
-use Prim.Native.Nat.{ℕ, zero, suc, ◌-◌, ◌≤◌, ◌<◌}
+-- How long a rule is, and a table as its first three records and then its rules: what the proofs of the functions that judge and decode share.
+use Prim.Native.Nat.{ℕ, ◌-◌, ◌≤◌}
 use native.Mathlib.Omega.{arith}
 use mathlib.Core.Path.{◌≡◌, refl, ap, ◌∙◌}
-use mathlib.Core.List.{List, [], ◌∷◌}
-use lib.ListN.{length, drop, length-drop, length-take}
-use Rattle.records.specs.Record.{opened, body_of}
-use Rattle.records.specs.Read.{Read, found, refused, ◌>>=◌, ◌>>◌, map_read}
+use mathlib.Core.List.{List}
+use lib.ListN.{length, length-drop, length-take}
+use Rattle.records.specs.Record.{body_of}
+use Rattle.records.specs.Read.{Read, found, refused, ◌>>=◌, map_read}
 use Rattle.records.specs.Bytes.{numbers}
 use Rattle.records.proofs.Opening.{body_within}
 use Rattle.records.proofs.Reading.{bind_found, found_same}
 use Rattle.automaton.specs.Automaton.{Rule}
-use Rattle.automaton.specs.Table.{due, judge_record, rule_in, judge_rule, judge_rules, judge_from_finals, judge_from_ranks, judge}
+use Rattle.automaton.specs.Table.{judge_record, judge_rule, judge_rules, judge_from_finals, judge_from_ranks, judge}
 use Rattle.automaton.specs.Decoded.{size_of, sized}
 use Rattle.automaton.specs.Inner.{passing, Parts, judge_head, judge_behind}
 use Rattle.automaton.proofs.Checked.{record_found, size_checked, RanksChecked, ranks_checked, FinalsChecked, finals_checked}
@@ -22,38 +21,12 @@ unfolding passing map_read ◌>>=◌
 passing_map f (found a) = refl
 passing_map f (refused c) = refl
 
--- The next rule, and the rules after it.
-module _ (n : ℕ) (ranks b : List ℕ) where
-  -- A rule takes ten bytes at least.
-  pub rule_long : {end : ℕ} → judge_record 4 7 (judge_rule n ranks) b ≡ found end → 10 ≤ end
-  rule_long {end} h =
-      let r = record_found 4 7 (judge_rule n ranks) b h in
-      let some : length (body_of b) ≤ end - 6 = rw (body_within b r.opens, length-take) (omega arith) in
-      omega (arith, (rule_checked n ranks (body_of b) r.passes).start)
-
-  pub rules_refused : {cause : ℕ} (k : ℕ) → 0 < k → judge_record 4 7 (judge_rule n ranks) b ≡ refused cause
-      → judge_rules n ranks k b ≡ refused cause
-  unfolding judge_rules ◌>>=◌
-  rules_refused zero p h = absurd (omega arith)
-  rules_refused (suc k) p h = rw h
-
-  pub rules_next : {end : ℕ} (k : ℕ) → 0 < k → judge_record 4 7 (judge_rule n ranks) b ≡ found end
-      → judge_rules n ranks k b ≡ judge_rules n ranks (k - 1) (drop end b) >>= (λ (rules : List Rule). found (rule_in (body_of b) ∷ rules))
-  unfolding judge_rules ◌>>=◌
-  rules_next zero p h = absurd (omega arith)
-  rules_next (suc k) p h = let e : suc k - 1 ≡ k = omega arith in rw (e, h)
-
--- Behind the last rule.
-module _ (n : ℕ) (ranks : List ℕ) where
-  pub end_empty : (b : List ℕ) → length b ≡ 0 → judge_rules n ranks 0 b ≡ found []
-  unfolding judge_rules
-  end_empty [] h = refl
-  end_empty (x ∷ b) h = absurd (omega arith)
-
-  pub end_some : (b : List ℕ) → (length b ≡ 0 → ⊥) → judge_rules n ranks 0 b ≡ due 4 7 (opened b) >> refused 7
-  unfolding judge_rules
-  end_some [] some = absurd (some refl)
-  end_some (x ∷ b) some = refl
+-- A rule takes ten bytes at least.
+pub rule_long : (n : ℕ) (ranks b : List ℕ) {end : ℕ} → judge_record 4 7 (judge_rule n ranks) b ≡ found end → 10 ≤ end
+rule_long n ranks b {end} h =
+    let r = record_found 4 7 (judge_rule n ranks) b h in
+    let some : length (body_of b) ≤ end - 6 = rw (body_within b r.opens, length-take) (omega arith) in
+    omega (arith, (rule_checked n ranks (body_of b) r.passes).start)
 
 -- A table is its first three records, its head, and then its rules.
 

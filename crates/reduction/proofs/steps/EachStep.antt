@@ -7,7 +7,6 @@ use mathlib.Core.List.Memᴰ
 use mathlib.Core.List.{List, [], map, Memᴰ}
 use mathlib.Core.Bool.{Bool, true, not, ◌&&◌}
 use lib.ListN.{length, get_or}
-use Rattle.std.proofs.lemmas.List.{length-map}
 use lib.Dec.{eqb, ltb}
 use borrow.Author.Tests.{eq-eqb, eqb-true, ltb-true, lt-ltb}
 use Rattle.lists.specs.Lists.{empty, all, from, keep, any, among}
@@ -22,9 +21,7 @@ use Rattle.sets.specs.Set.{member, meet_of}
 use Rattle.sets.specs.Inner.{Has, states_in}
 use Rattle.sets.proofs.StateSets.{member_meet}
 use Rattle.automaton.specs.Automaton.{Rule, Automaton, WellFormed, WellFormedRule, renamed}
-use Rattle.automaton.specs.Row.{rule_of, rules_of, rule_at}
-use Rattle.automaton.specs.declared.row.Row.{Row}
-use Rattle.automaton.proofs.Rows.{rule_in_lem}
+use Rattle.automaton.specs.Row.{rule_at}
 use Rattle.indexing.proofs.Indexing.{rules_numbered}
 use Rattle.refinement.specs.Simulation.{Relation}
 use Rattle.refinement.specs.Inner.{Simulable}
@@ -32,14 +29,14 @@ use Rattle.stages.specs.Steps.{Stage, closure, buildable, productive, names_only
 use Rattle.stages.specs.Steps.{same_rule, firsts, quotient, dominated_by, dominated, needed, kept, restricted, position, numbered}
 use Rattle.stages.specs.Inner.{Sound}
 use Rattle.stages.proofs.Closure.{closure_states}
-use Rattle.stages.proofs.Firsts.{firsts_in, firsts_places}
+use Rattle.stages.proofs.Firsts.{firsts_places}
 use Rattle.stages.proofs.Trimming.{trimmed_sound}
 use Rattle.stages.proofs.Quotient.{below_reflexive, first_same, final_representative, representative_final, representative_state}
 use Rattle.stages.proofs.Quotient.{quotient_states, quotient_sound}
 use Rattle.stages.proofs.Restricting.{kept_states, finals_kept, children_kept, restricted_sound}
 use Rattle.stages.proofs.Numbering.{position_low, positions_rising}
-use Rattle.reduction.specs.Inner.{name_in, marked, repeats, dominates, stays, grows}
-use Rattle.reduction.proofs.steps.StageSets.{states_out, set_states, kept_rows, renamed_agree}
+use Rattle.reduction.specs.Inner.{name_in, repeats, dominates, goes_at, stays, staying, grows}
+use Rattle.reduction.proofs.steps.StageSets.{states_out, set_states, kept_rules, renamed_agree}
 
 -- Step 1: up from no state, the set that grows has the productive states.
 
@@ -158,7 +155,7 @@ module _ (S : Stage) (sound : Sound S) (words : List ℕ) (grown : Has words (am
 
 first_stays : (R : Relation) (rules : List Rule) (i : ℕ) → i < length rules
     → stays repeats R rules i ≡ not (any (λ (j : ℕ). same_rule (rule_at rules j) (rule_at rules i)) (from 0 i))
-unfolding stays repeats
+unfolding stays goes_at repeats
 first_stays R rules i l =
     let same : ℕ → Bool = λ j. same_rule (rule_at rules j) (rule_at rules i) in
     let earlier : ℕ → Bool = λ j. ltb j i && same j in
@@ -171,17 +168,12 @@ first_stays R rules i l =
     any_in earlier (from_member (length rules) 0 f.element (omega arith) (omega arith))
     (and_true_in (lt-ltb f.element i (omega arith)) f.passes)))
 
-first_rows : (R : Relation) (rows : List Row) (marks : List Bool)
-    → ((i : ℕ) → i < length rows → marked marks i ≡ stays repeats R (rules_of rows) i)
-    → map (rule_at (rules_of rows)) (keep (marked marks) (from 0 (length rows))) ≡ firsts (rules_of rows)
-first_rows R rows marks h =
-    let rules = rules_of rows in
-    let k = length rows in
-    let count : length rules ≡ k = length-map rows rule_of in
-    ap (map (rule_at rules)) (keep_agree (marked marks) _ (from 0 k)
-    (λ i m. let b = member_from k 0 i m in
-    h i (omega arith) ∙ first_stays R rules i (omega (arith, count))))
-    ∙ firsts_places (rule_at rules) k ∙ ap firsts (ap (λ (n : ℕ). map (rule_at rules) (from 0 n)) (sym count) ∙ rules_numbered rules)
+staying_firsts : (R : Relation) (rules : List Rule) → staying repeats R rules ≡ firsts rules
+unfolding staying
+staying_firsts R rules =
+    ap (map (rule_at rules)) (keep_agree (stays repeats R rules) _ (from 0 (length rules))
+    (λ i m. let b = member_from (length rules) 0 i m in first_stays R rules i (omega arith)))
+    ∙ firsts_places (rule_at rules) (length rules) ∙ ap firsts (rules_numbered rules)
 
 module _ (states finals : List ℕ) (rules : List Rule) where
   abbrev pub stage : Stage
@@ -208,11 +200,6 @@ module _ (states finals : List ℕ) (rules : List Rule) where
         → next ≡ map (renamed (representative (below stage) stage.states)) rules
     unfolding block_of
     grouped_targets next e = e ∙ renamed_agree (name_in names) block_of stage sound name_block
-
-    pub grouped_in : (next : List Rule) → next ≡ map (renamed (name_in names)) rules
-        → (u : Rule) → Memᴰ u next → Memᴰ u (quotient (below stage) stage).rules
-    unfolding quotient
-    grouped_in next e u m = firsts_in _ (rw (grouped_targets next e) at m)
 
     grouped_states : (set : List ℕ) → Has set (λ (r : ℕ). any (λ (q : ℕ). eqb (name_in names q) r) stage.states)
         → states_in 256 set ≡ (quotient (below stage) stage).states
@@ -242,36 +229,24 @@ module _ (states finals : List ℕ) (rules : List Rule) where
         (λ t. let (f, m, e) = representative_final stage sound r (among_out _ r t) in
         any_in (λ (q : ℕ). eqb (name_in names q) r) m (eq-eqb (name_in names f) r (name_block f (sound.finals f m) ∙ e))))
 
-    pub grouped_is : (R : Relation) (next : List Row) (left : List Rule) (marks : List Bool) → rules_of next ≡ map (renamed (name_in names)) rules
-        → ((i : ℕ) → i < length next → marked marks i ≡ stays repeats R (rules_of next) i)
-        → left ≡ map (rule_at (rules_of next)) (keep (marked marks) (from 0 (length next)))
+    pub grouped_is : (R : Relation) (next left : List Rule) → next ≡ map (renamed (name_in names)) rules → left ≡ staying repeats R next
         → (set last : List ℕ) → Has set (λ (r : ℕ). any (λ (q : ℕ). eqb (name_in names q) r) stage.states)
         → Has last (λ (r : ℕ). any (λ (q : ℕ). eqb (name_in names q) r) stage.finals)
         → (record { states = states_in 256 set; finals = states_in 256 last; rules = left }) ≡ quotient (below stage) stage
     unfolding quotient
-    grouped_is R next left marks e marks_are rules_are set last has has_last =
+    grouped_is R next left e rules_are set last has has_last =
         let rules_left : left ≡ (quotient (below stage) stage).rules =
-        rules_are ∙ first_rows R next marks marks_are ∙ ap firsts (grouped_targets (rules_of next) e) in
+        rules_are ∙ staying_firsts R next ∙ ap firsts (grouped_targets next e) in
         rw (grouped_states set has, grouped_finals last has_last, rules_left) refl
-
--- The targets of the rules that a stage has are below 256.
-pub targets_few : (rows : List Row) (S : Stage) → Sound S → ((u : Rule) → Memᴰ u (rules_of rows) → Memᴰ u S.rules)
-    → (i : ℕ) → i < length rows → (rule_at (rules_of rows) i).target < 256
-targets_few rows S sound inside i h =
-    let l : i < length (rules_of rows) = omega (arith, length-map rows rule_of) in
-    all_member sound.low (sound.targets _ (inside _ (rule_in_lem (rules_of rows) i l)))
 
 -- Step 4: no dominated rule stays.
 
-pub undominated_rows : (R : Relation) (rows : List Row) (marks : List Bool)
-    → ((i : ℕ) → i < length rows → marked marks i ≡ stays dominates R (rules_of rows) i)
-    → map (rule_at (rules_of rows)) (keep (marked marks) (from 0 (length rows)))
-    ≡ keep (λ (u : Rule). not (dominated R (rules_of rows) u)) (rules_of rows)
-unfolding stays dominates dominated
-undominated_rows R rows marks h =
-    let rules = rules_of rows in
-    kept_rows rows (marked marks) (λ (u : Rule). not (dominated R rules u))
-    (λ i l. h i l ∙ ap not (sym (any_map (dominated_by R (rule_at rules i)) (rule_at rules) (from 0 (length rules)))
+pub staying_undominated : (R : Relation) (rules : List Rule)
+    → staying dominates R rules ≡ keep (λ (u : Rule). not (dominated R rules u)) rules
+unfolding staying stays goes_at dominates dominated
+staying_undominated R rules =
+    kept_rules rules _ (λ (u : Rule). not (dominated R rules u))
+    (λ i l. ap not (sym (any_map (dominated_by R (rule_at rules i)) (rule_at rules) (from 0 (length rules)))
     ∙ ap (any (dominated_by R (rule_at rules i))) (rules_numbered rules)))
 
 -- Step 6.

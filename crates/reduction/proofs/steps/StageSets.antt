@@ -9,7 +9,7 @@ use mathlib.Core.Bool.{Bool, true, false}
 use lib.ListN.{length, get_or}
 use lib.Dec.{ltb}
 use borrow.Author.Tests.{eqb-true, ltb-true, ltb-false}
-use Rattle.std.proofs.lemmas.List.{get_or_past, length-map}
+use Rattle.std.proofs.lemmas.List.{get_or_past}
 use Rattle.lists.specs.Lists.{All, Rising, from, keep, among}
 use Rattle.lists.proofs.Booleans.{and_true_out, same_bool}
 use Rattle.lists.proofs.Mapping.{map_agree}
@@ -21,8 +21,7 @@ use Rattle.sets.specs.Set.{member, meet_of}
 use Rattle.sets.specs.Inner.{Has, states_in}
 use Rattle.sets.proofs.StateSets.{member_meet, states_low}
 use Rattle.automaton.specs.Automaton.{Rule, renamed}
-use Rattle.automaton.specs.Row.{rule_of, rules_of, rule_at}
-use Rattle.automaton.specs.declared.row.Row.{Row}
+use Rattle.automaton.specs.Row.{rule_at}
 use Rattle.indexing.proofs.Indexing.{rules_numbered}
 use Rattle.stages.specs.Steps.{Stage, names_only}
 use Rattle.stages.specs.Inner.{Sound}
@@ -109,16 +108,14 @@ named_sound states finals rules inside =
     }
 
 -- The rules whose number passes a test that depends on the rule alone.
-pub kept_rows : (rows : List Row) (by_number : ℕ → Bool) (test : Rule → Bool)
-    → ((i : ℕ) → i < length rows → by_number i ≡ test (rule_at (rules_of rows) i))
-    → map (rule_at (rules_of rows)) (keep by_number (from 0 (length rows))) ≡ keep test (rules_of rows)
-kept_rows rows by_number test h =
-    let rules = rules_of rows in
-    let k = length rows in
+pub kept_rules : (rules : List Rule) (by_number : ℕ → Bool) (test : Rule → Bool)
+    → ((i : ℕ) → i < length rules → by_number i ≡ test (rule_at rules i))
+    → map (rule_at rules) (keep by_number (from 0 (length rules))) ≡ keep test rules
+kept_rules rules by_number test h =
+    let k = length rules in
     ap (map (rule_at rules)) (keep_agree by_number (λ (i : ℕ). test (rule_at rules i)) (from 0 k)
     (λ i m. let b = member_from k 0 i m in h i (omega arith)))
-    ∙ sym (keep_map test (rule_at rules) (from 0 k))
-    ∙ ap (keep test) (ap (λ (n : ℕ). map (rule_at rules) (from 0 n)) (sym (length-map rows rule_of)) ∙ rules_numbered rules)
+    ∙ sym (keep_map test (rule_at rules) (from 0 k)) ∙ ap (keep test) (rules_numbered rules)
 
 pub renamed_agree : (f g : ℕ → ℕ) (S : Stage) → Sound S → ((q : ℕ) → Memᴰ q S.states → f q ≡ g q)
     → map (renamed f) S.rules ≡ map (renamed g) S.rules

@@ -9,17 +9,17 @@ use lib.ListN.{length}
 use lib.Dec.{eqb}
 use borrow.Author.Tests.{eq-eqb, ne_eqb, eqb-true, eqb-false, not-true, not-false}
 use Rattle.lists.specs.Lists.{all}
-use Rattle.lists.proofs.Booleans.{and_true_in, and_true_out, and_false_left, and_false_right}
+use Rattle.lists.proofs.Booleans.{and_true_in, and_true_out, and_false_left}
 use Rattle.lists.proofs.Search.{any_agree, all_agree}
 use Rattle.sets.specs.Set.{member, same_set}
 use Rattle.sets.specs.Entries.{entry_at}
-use Rattle.sets.specs.Inner.{states_in, Has, Below}
+use Rattle.sets.specs.Inner.{states_in, Has}
 use Rattle.sets.specs.declared.set.StateSet.{StateSet}
 use Rattle.sets.proofs.StateSets.{same_set_out, sets_differ, states_low}
 use Rattle.sets.proofs.EntrySets.{entry_length, entry_bounded}
 use Rattle.automaton.specs.Automaton.{Rule}
 use Rattle.refinement.specs.Simulation.{Relation, related, paired, matched_by, matched, survives, refine, all_pairs, relation_at}
-use Rattle.refinement.specs.Inner.{relation_in, Simulable, is_target, touches, Quiet, RowsBelow, Copied}
+use Rattle.refinement.specs.Inner.{relation_in, Simulable, is_target, touches, Quiet, Copied}
 use Rattle.refinement.proofs.Refinement.{member_related, pair_member, refine_related}
 use Rattle.refinement.proofs.RelationRows.{related_in, relation_start, relation_next, relation_same}
 use Rattle.refinement.proofs.rounds.Going.{rows_related, quiet_refined, changed_more, Going}
@@ -54,7 +54,7 @@ module _ (rules : List Rule) (states : List ℕ) (s : Simulable rules states) wh
           rw (ne_eqb v.symbol u.symbol (λ f. eqb-false u.symbol v.symbol e (sym f)), and-false)
 
 -- What `start` leaves and the first round makes of it, by the targets that the rules of each symbol have.
-module _ (n : ℕ) (rules : List Rule) (set : StateSet) (low : Below n set.words) (s : Simulable rules (states_in 256 set.words))
+module _ (rules : List Rule) (set : StateSet) (s : Simulable rules (states_in 256 set.words))
     (symbols : (u : Rule) → Memᴰ u rules → u.symbol < 256)
     (holders : List StateSet) (held : (f : ℕ) → f < 256 → Has (entry_at holders f) (is_target rules f)) (start first : List StateSet)
     (started : (q : ℕ) → q < 256 → Has (entry_at start q) (λ (r : ℕ). member set.words q && member set.words r))
@@ -76,11 +76,6 @@ module _ (n : ℕ) (rules : List Rule) (set : StateSet) (low : Below n set.words
       (held u.symbol (symbols u m) r b ∙ sym (ap (λ (R : Relation). matched rules R r u) all_pairs_lem
       ∙ matched_first rules states s u m r))))
       ∙ sym (refine_related rules (relation_in start) q r))
-
-  first_low : RowsBelow n first
-  unfolding RowsBelow Below
-  first_low q h r l b =
-      rounded q h r b ∙ and_false_left _ (started q h r b ∙ and_false_right (member set.words q) (low r l b))
 
   -- The states whose rows are not the whole set.
   module _ (changed : StateSet) (is : Has changed.words (λ (q : ℕ). member set.words q && not (same_set (entry_at first q) set.words))) where
@@ -111,7 +106,7 @@ module _ (n : ℕ) (rules : List Rule) (set : StateSet) (low : Below n set.words
         sym (related_in first q r h b) ∙ ap (λ (R : Relation). related R q r) (first_refined ∙ fixed)
         ∙ related_in start q r h b ∙ started q h r b ∙ rw both.0)
 
-    pub going_first : (next : List StateSet) → Copied set.words first next → Going n set.words rules states first next changed.words 0
+    pub going_first : (next : List StateSet) → Copied set.words (relation_in first) next → Going set.words rules states (relation_in first) next changed.words 0
     unfolding relation_at
     going_first next copied =
         record {
@@ -121,5 +116,4 @@ module _ (n : ℕ) (rules : List Rule) (set : StateSet) (low : Below n set.words
           more = changed_more rules states 0 (omega arith) (relation_in start) all_pairs_lem changed
               (λ none. sym first_refined ∙ relation_same start first (λ q h. row_same q h (none q h))) changed_other;
           copied = copied;
-          low = first_low;
         }

@@ -13,17 +13,17 @@ use borrow.Author.Tests.{eq-eqb, ne_eqb, ltb-true, ltb-false, lt-ltb, le-ltb}
 use Rattle.lists.specs.Lists.{from}
 use Rattle.lists.proofs.Overwriting.{kept_few}
 use Rattle.lists.proofs.Ranges.{member_from}
-use Rattle.lists.proofs.Booleans.{and_false_left, and_same, never_true}
+use Rattle.lists.proofs.Booleans.{and_same, never_true}
 use Rattle.lists.proofs.Search.{any_none_out, any_agree, all_in, all_out}
 use Rattle.sets.specs.Set.{member, empty_set, same_set}
 use Rattle.sets.specs.Entries.{entry_at}
-use Rattle.sets.specs.Inner.{with_all, set_of, states_in, Has, Below}
+use Rattle.sets.specs.Inner.{with_all, set_of, states_in, Has}
 use Rattle.sets.specs.declared.set.StateSet.{StateSet}
 use Rattle.sets.proofs.StateSets.{member_empty, length_set_of, same_set_out, bounded_set_of, sets_differ}
 use Rattle.automaton.specs.Automaton.{Rule}
 use Rattle.refinement.specs.Simulation.{Relation, related, paired, matched_by, matched, survives, refine, all_pairs, relation_at, rounds}
 use Rattle.refinement.specs.Simulation.{relation}
-use Rattle.refinement.specs.Inner.{relation_in, answers, touches, Quiet, RowsBelow, Copied, Rounded}
+use Rattle.refinement.specs.Inner.{relation_in, answers, touches, Quiet, Copied, Rounded}
 use Rattle.refinement.proofs.Refinement.{related_member, member_pair, keep_related, refine_related, refine_out, rounds_fixed, rounds_least}
 use Rattle.refinement.proofs.Maximality.{rounds_lose}
 use Rattle.refinement.proofs.RelationRows.{related_in, relation_next, relation_same}
@@ -91,37 +91,35 @@ module _ (rules : List Rule) (states : List ℕ) (j : ℕ) (early : j ≤ rounds
           never_true (fixed-unchanged (rw (is, last) (rounds_fixed rules states)) q h) ∙ sym (member_empty q h)) in
           sym (lt-ltb j (rounds rules states) (omega arith))
 
--- What holds after j rounds and one: the rows hold the next relation, and a state is in the set where its row changed in the last of them.
-pub record Going (n : ℕ) (set : List ℕ) (rules : List Rule) (states : List ℕ) (rows next : List StateSet) (changed : List ℕ) (j : ℕ) : Type 0 where
+-- What holds after j rounds and one: the relation is the next one, and a state is in the set where its row changed in the last of them.
+pub record Going (set : List ℕ) (rules : List Rule) (states : List ℕ) (R : Relation) (next : List StateSet) (changed : List ℕ) (j : ℕ) : Type 0 where
   pub early : j ≤ rounds rules states
-  pub holds : relation_in rows ≡ relation_at rules states (suc j)
-  pub quiet : Quiet rules rules (relation_in rows) (touches changed)
+  pub holds : R ≡ relation_at rules states (suc j)
+  pub quiet : Quiet rules rules R (touches changed)
   pub more : not (same_set changed empty_set) ≡ ltb j (rounds rules states)
-  pub copied : Copied set rows next
-  pub low : RowsBelow n rows
+  pub copied : Copied set R next
 
 -- The changed rows of the next relation in the place of the last ones.
-module _ (n : ℕ) (set : List ℕ) (rules : List Rule) (rows after next : List StateSet) (lost : StateSet)
+module _ (set : List ℕ) (rules : List Rule) (rows after next : List StateSet) (lost : StateSet)
     (targets : (u : Rule) → Memᴰ u rules → member set u.target ≡ true)
-    (round : Rounded set (answers rules rules (relation_in rows)) rows next lost.words)
+    (round : Rounded set (answers rules rules (relation_in rows)) (relation_in rows) next lost.words)
     (put : (q : ℕ) → q < 256 → member lost.words q ≡ true → entry_at after q ≡ entry_at next q)
     (stay : (q : ℕ) → q < 256 → member lost.words q ≡ false → entry_at after q ≡ entry_at rows q) where
   abbrev R : Relation
   R = relation_in rows
 
-  put_copied : Copied set after next
+  put_copied : Copied set (relation_in after) next
   unfolding Copied
-  put_copied q h m = go (member lost.words q) refl
+  put_copied q h m r b = go (member lost.words q) refl
     where
-      go : (t : Bool) → member lost.words q ≡ t → entry_at next q ≡ entry_at after q
-      go true e = sym (put q h e)
-      go false e = round.same q h m e ∙ sym (stay q h e)
+      go : (t : Bool) → member lost.words q ≡ t → member (entry_at next q) r ≡ related (relation_in after) q r
+      go true e = sym (related_in after q r h b ∙ ap (λ (row : List ℕ). member row r) (put q h e))
+      go false e =
+          round.same q h m e r b ∙ related_in rows q r h b ∙ sym (related_in after q r h b ∙ ap (λ (row : List ℕ). member row r) (stay q h e))
 
   next_row : (q : ℕ) → q < 256 → member set q ≡ true → Has (entry_at next q) (related (refine rules R) q)
   unfolding survives answers
-  next_row q h m r b =
-      round.next_rows q h m r b
-      ∙ sym (refine_related rules R q r ∙ ap (λ (t : Bool). t && survives rules R (q, r)) (related_in rows q r h b))
+  next_row q h m r b = round.next_rows q h m r b ∙ sym (refine_related rules R q r)
 
   -- A state that is no rule's target keeps its row.
   no_target : (q r : ℕ) → member set q ≡ false → survives rules R (q, r) ≡ true
@@ -134,17 +132,11 @@ module _ (n : ℕ) (set : List ℕ) (rules : List Rule) (rows after next : List 
   put_refined = relation_next rules rows after (λ q h r b. go q h r b (member set q) refl)
     where
       go : (q : ℕ) → q < 256 → (r : ℕ) → r < 256 → (t : Bool) → member set q ≡ t → member (entry_at after q) r ≡ related (refine rules R) q r
-      go q h r b true e = ap (λ (row : List ℕ). member row r) (sym (put_copied q h e)) ∙ next_row q h e r b
+      go q h r b true e = sym (related_in after q r h b) ∙ sym (put_copied q h e r b) ∙ next_row q h e r b
       go q h r b false e =
           let on : member lost.words q ≡ false = never_true (λ l. true≢false (sym (round.fewer q h l).0 ∙ e)) in
           ap (λ (row : List ℕ). member row r) (stay q h on) ∙ sym (related_in rows q r h b)
           ∙ sym (refine_related rules R q r ∙ rw (no_target q r e, and-true (related R q r)))
-
-  put_low : RowsBelow n rows → RowsBelow n after
-  unfolding RowsBelow Below
-  put_low low q h r l b =
-      sym (related_in after q r h b) ∙ ap (λ (S : Relation). related S q r) put_refined ∙ refine_related rules R q r
-      ∙ and_false_left (survives rules R (q, r)) (related_in rows q r h b ∙ low q h r l b)
 
   put_quiet : ((u : Rule) → Memᴰ u rules → (q : ℕ) → Memᴰ q u.children → q < 256)
       → Quiet rules rules (relation_in after) (touches lost.words)
@@ -156,12 +148,12 @@ module _ (n : ℕ) (set : List ℕ) (rules : List Rule) (rows after next : List 
   put_other : refine rules R ≡ R → (q : ℕ) → q < 256 → member lost.words q ≡ true → ⊥
   put_other fixed q h e =
       let f = round.fewer q h e in
-      f.1 (λ r b m. next_row q h f.0 r b ∙ ap (λ (S : Relation). related S q r) fixed ∙ related_in rows q r h b ∙ m)
+      f.1 (λ r b m. next_row q h f.0 r b ∙ ap (λ (S : Relation). related S q r) fixed ∙ m)
 
   pub going_next : (states : List ℕ) (before : List StateSet) (changed : List ℕ) (j : ℕ)
       → ((u : Rule) → Memᴰ u rules → (q : ℕ) → Memᴰ q u.children → q < 256)
-      → Going n set rules states rows before changed j → not (same_set changed empty_set) ≡ true
-      → Going n set rules states after next lost.words (j + 1)
+      → Going set rules states R before changed j → not (same_set changed empty_set) ≡ true
+      → Going set rules states (relation_in after) next lost.words (j + 1)
   unfolding relation_at
   going_next states before changed j children g some =
       let early : j + 1 ≤ rounds rules states = omega (arith, ltb-true j (rounds rules states) (sym g.more ∙ some)) in
@@ -173,12 +165,11 @@ module _ (n : ℕ) (set : List ℕ) (rules : List Rule) (rows after next : List 
         more = changed_more rules states (j + 1) early R is lost
             (λ none. sym put_refined ∙ relation_same rows after (λ q h r b. ap (λ (row : List ℕ). member row r) (stay q h (none q h)))) put_other;
         copied = put_copied;
-        low = put_low g.low;
       }
 
-module _ {n : ℕ} {set : List ℕ} {rules : List Rule} {states : List ℕ} {rows next : List StateSet} {changed : List ℕ} {j : ℕ}
-    (g : Going n set rules states rows next changed j) where
-  pub going_done : not (same_set changed empty_set) ≡ false → (j ≡ rounds rules states) × (relation_in rows ≡ relation rules states)
+module _ {set : List ℕ} {rules : List Rule} {states : List ℕ} {R : Relation} {next : List StateSet} {changed : List ℕ} {j : ℕ}
+    (g : Going set rules states R next changed j) where
+  pub going_done : not (same_set changed empty_set) ≡ false → (j ≡ rounds rules states) × (R ≡ relation rules states)
   unfolding relation
   going_done none =
       let late = ltb-false j (rounds rules states) (sym g.more ∙ none) in
@@ -195,7 +186,7 @@ module _ {n : ℕ} {set : List ℕ} {rules : List Rule} {states : List ℕ} {row
         mul-le-mul few few,
       )
 
--- There are at most 256 states below n.
-pub states_few : (n : ℕ) (set : List ℕ) → n ≤ 256 → length (states_in n set) ≤ 256
+-- There are at most 256 states.
+pub states_few : (set : List ℕ) → length (states_in 256 set) ≤ 256
 unfolding states_in
-states_few n set h = omega (arith, kept_few (member set) n)
+states_few set = kept_few (member set) 256

@@ -13,48 +13,39 @@ use Rattle.lists.proofs.Booleans.{and_true_out, and_false_left, and_false_right,
 use Rattle.lists.proofs.Search.{all_agree}
 use Rattle.sets.specs.Set.{member, empty_set, with_state}
 use Rattle.sets.specs.Entries.{entry_at}
-use Rattle.sets.specs.Inner.{Has, Below}
+use Rattle.sets.specs.Inner.{Has}
 use Rattle.sets.specs.declared.set.StateSet.{StateSet}
 use Rattle.sets.proofs.StateSets.{member_empty, member_with, with_each}
 use Rattle.sets.proofs.EntrySets.{entry_put, entry_other}
 use Rattle.automaton.specs.Automaton.{Rule}
 use Rattle.refinement.specs.Simulation.{Relation, related, matched}
-use Rattle.refinement.specs.Inner.{relation_in, answers, touches, Quiet, RowsBelow, Copied, Rounded}
-use Rattle.refinement.proofs.RelationRows.{related_in}
+use Rattle.refinement.specs.Inner.{answers, touches, Quiet, Copied, Rounded}
 use Rattle.refinement.proofs.rounds.Replacing.{all_next}
 
 -- Of some rules those that are touched and have target q have a match of target r.
 abbrev pub narrowing : (Rule → Bool) → List Rule → Relation → List Rule → ℕ → ℕ → Bool
 narrowing touched others R rules q r = all (λ (u : Rule). not (touched u && eqb u.target q) || matched others R r u) rules
 
-pub rounded_none : {states : List ℕ} (touched : Rule → Bool) (others : List Rule) {rows next : List StateSet} → Copied states rows next
-    → Rounded states (narrowing touched others (relation_in rows) []) rows next empty_set
+pub rounded_none : {states : List ℕ} (touched : Rule → Bool) (others : List Rule) {R : Relation} {next : List StateSet} → Copied states R next
+    → Rounded states (narrowing touched others R []) R next empty_set
 unfolding Copied all
-rounded_none touched others copied =
+rounded_none touched others {R} copied =
     record {
-      next_rows = λ q h m r b. rw (copied q h m, and-true);
+      next_rows = λ q h m r b. copied q h m r b ∙ sym (and-true (related R q r));
       same = λ q h m e. copied q h m;
       fewer = λ q h e. absurd (false≢true (sym (member_empty q h) ∙ e));
     }
 
-module _ {states : List ℕ} {stays : ℕ → ℕ → Bool} {rows next : List StateSet} {lost : List ℕ} (w : Rounded states stays rows next lost) where
-  pub rounded_below : (m : ℕ) → RowsBelow m rows → (q : ℕ) → q < 256 → member states q ≡ true → Below m (entry_at next q)
-  unfolding RowsBelow Below
-  rounded_below m low q h is r l b = w.next_rows q h is r b ∙ and_false_left _ (low q h r l b)
-
-  rounded_agrees : (other : ℕ → ℕ → Bool)
-      → ((q r : ℕ) → q < 256 → r < 256 → member (entry_at rows q) r ≡ true → stays q r ≡ other q r) → Rounded states other rows next lost
+module _ {states : List ℕ} {stays : ℕ → ℕ → Bool} {R : Relation} {next : List StateSet} {lost : List ℕ} (w : Rounded states stays R next lost) where
+  rounded_agrees : (other : ℕ → ℕ → Bool) → ((q r : ℕ) → related R q r ≡ true → stays q r ≡ other q r) → Rounded states other R next lost
   rounded_agrees other same = record {
-    next_rows = λ q h m r b. w.next_rows q h m r b ∙ and_same (member (entry_at rows q) r) (same q r h b);
+    next_rows = λ q h m r b. w.next_rows q h m r b ∙ and_same (related R q r) (same q r);
     same = w.same;
     fewer = w.fewer;
   }
 
-module _ (touched : Rule → Bool) (others us : List Rule) (u : Rule) {states : List ℕ} {rows next : List StateSet} {lost : List ℕ}
-    (w : Rounded states (narrowing touched others (relation_in rows) us) rows next lost) where
-  abbrev R : Relation
-  R = relation_in rows
-
+module _ (touched : Rule → Bool) (others us : List Rule) (u : Rule) {states : List ℕ} {R : Relation} {next : List StateSet} {lost : List ℕ}
+    (w : Rounded states (narrowing touched others R us) R next lost) where
   abbrev before : ℕ → ℕ → Bool
   before = narrowing touched others R us
 
@@ -65,26 +56,26 @@ module _ (touched : Rule → Bool) (others us : List Rule) (u : Rule) {states : 
   nothing_asked : (q r : ℕ) → (touched u && eqb u.target q) ≡ false → before q r ≡ after q r
   nothing_asked q r e = sym (all_next us u _ ∙ rw (e, and-true))
 
-  pub rounded_pass : touched u ≡ false → Rounded states after rows next lost
-  rounded_pass out = rounded_agrees w after (λ q r h b m. nothing_asked q r (and_false_left (eqb u.target q) out))
+  pub rounded_pass : touched u ≡ false → Rounded states after R next lost
+  rounded_pass out = rounded_agrees w after (λ q r m. nothing_asked q r (and_false_left (eqb u.target q) out))
 
   -- A rule that is touched narrows the row of its target.
   module _ (row : StateSet) (is : touched u ≡ true) (low : u.target < 256) (known : member states u.target ≡ true)
       (narrowed : Has row.words (λ (r : ℕ). member (entry_at next u.target) r && matched others R r u)) where
-    row_after : (r : ℕ) → r < 256 → member row.words r ≡ (member (entry_at rows u.target) r && after u.target r)
+    row_after : (r : ℕ) → r < 256 → member row.words r ≡ (related R u.target r && after u.target r)
     row_after r b =
         rw (all_next us u, is, eq-eqb u.target u.target refl)
         (narrowed r b ∙ ap (λ (t : Bool). t && matched others R r u) (w.next_rows u.target low known r b)
-        ∙ and_assoc (member (entry_at rows u.target) r) (before u.target r) (matched others R r u))
+        ∙ and_assoc (related R u.target r) (before u.target r) (matched others R r u))
 
     other_after : (p : ℕ) → (p ≡ u.target → ⊥) → p < 256 → member states p ≡ true
-        → Has (entry_at next p) (λ (r : ℕ). member (entry_at rows p) r && after p r)
+        → Has (entry_at next p) (λ (r : ℕ). related R p r && after p r)
     other_after p d h m r b =
-        w.next_rows p h m r b ∙ ap (λ (t : Bool). member (entry_at rows p) r && t)
+        w.next_rows p h m r b ∙ ap (λ (t : Bool). related R p r && t)
         (nothing_asked p r (and_false_right (touched u) (ne_eqb u.target p (λ e. d (sym e)))))
 
     -- The row is what it was, or has lost a state.
-    pub rounded_kept : row.words ≡ entry_at next u.target → Rounded states after rows next lost
+    pub rounded_kept : row.words ≡ entry_at next u.target → Rounded states after R next lost
     rounded_kept kept = record {
       next_rows = λ p h m r b. elim (ℕ_discrete p u.target) [
         | yes e ↦ rw e (ap (λ (set : List ℕ). member set r) (sym kept) ∙ row_after r b)
@@ -95,7 +86,7 @@ module _ (touched : Rule → Bool) (others us : List Rule) (u : Rule) {states : 
     }
 
     pub rounded_fewer : u.target < length next → (Has row.words (member (entry_at next u.target)) → ⊥)
-        → Rounded states after rows (set next u.target row) (with_state lost u.target)
+        → Rounded states after R (set next u.target row) (with_state lost u.target)
     rounded_fewer room other = record {
       next_rows = λ p h m r b. elim (ℕ_discrete p u.target) [
         | yes e ↦ rw (e, row_at) (row_after r b)
@@ -107,7 +98,7 @@ module _ (touched : Rule → Bool) (others us : List Rule) (u : Rule) {states : 
       ];
       fewer = with_each
           (λ (p : ℕ). (member states p ≡ true)
-          × (((r : ℕ) → r < 256 → member (entry_at rows p) r ≡ true → member (entry_at (set next u.target row) p) r ≡ true) → ⊥))
+          × (((r : ℕ) → r < 256 → related R p r ≡ true → member (entry_at (set next u.target row) p) r ≡ true) → ⊥))
           lost u.target
           (λ p h on. let f = w.fewer p h on in (f.0, λ all. f.1 (λ r b m. was_there p r b (all r b m)))) (
             known,
@@ -127,18 +118,13 @@ module _ (touched : Rule → Bool) (others us : List Rule) (u : Rule) {states : 
         ]
 
 -- Where the others are quiet, each rule of a row's state has a match for the states that are left.
-pub rounded_all : (rules others : List Rule) (changed : List ℕ) {states : List ℕ} {rows next : List StateSet} {lost : List ℕ}
-    → Quiet rules others (relation_in rows) (touches changed)
-    → Rounded states (narrowing (touches changed) others (relation_in rows) rules) rows next lost
-    → Rounded states (answers rules others (relation_in rows)) rows next lost
+pub rounded_all : (rules others : List Rule) (changed : List ℕ) {states : List ℕ} {R : Relation} {next : List StateSet} {lost : List ℕ}
+    → Quiet rules others R (touches changed) → Rounded states (narrowing (touches changed) others R rules) R next lost
+    → Rounded states (answers rules others R) R next lost
 unfolding Quiet answers
-rounded_all rules others changed {rows = rows} quiet w =
-    rounded_agrees w _ (λ q r h b is. all_agree _ _ rules (λ u m.
-    asked q r (related_in rows q r h b ∙ is) u m (eqb u.target q) refl (touches changed u) refl))
+rounded_all rules others changed {R = R} quiet w =
+    rounded_agrees w _ (λ q r is. all_agree _ _ rules (λ u m. asked q r is u m (eqb u.target q) refl (touches changed u) refl))
   where
-    R : Relation
-    R = relation_in rows
-
     asked : (q r : ℕ) → related R q r ≡ true → (u : Rule) → Memᴰ u rules → (t : Bool) → eqb u.target q ≡ t
         → (s : Bool) → touches changed u ≡ s → (not (s && t) || matched others R r u) ≡ (not t || matched others R r u)
     asked q r e u m t is true on = refl

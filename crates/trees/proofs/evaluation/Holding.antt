@@ -4,8 +4,8 @@ use Prim.Native.Nat.{ℕ, zero, suc, ◌+◌, ◌-◌, ◌^◌, ◌≤◌, ◌<�
 use native.Mathlib.Decide.{dec_lt}
 use native.Mathlib.Omega.{arith}
 use mathlib.Core.Path.{◌≡◌, refl, sym, ap, ◌∙◌}
-use mathlib.Core.List.{List, [], ◌∷◌, ◌++◌, map}
-use lib.ListN.{length, get_or, length-append}
+use mathlib.Core.List.{List, [], ◌∷◌, ◌++◌}
+use lib.ListN.{length, length-append}
 use Rattle.std.specs.Prelude.{Option, Some, None}
 use Rattle.lists.specs.Lists.{All, none, also, among}
 use Rattle.lists.proofs.Elements.{all_map}
@@ -14,15 +14,14 @@ use Rattle.sets.specs.Inner.{set_of, states_in}
 use Rattle.sets.proofs.StateSets.{Bounded, same_members, states_of_set, length_set_of, bounded_set_of}
 use Rattle.automaton.specs.Automaton.{Automaton}
 use Rattle.trees.specs.Walk.{Waiting, Walk, sizes_of}
-use Rattle.trees.specs.Inner.{StackRoom, set_at, start_at, stack_by, stack_in, walk_in, Consecutive}
-use Rattle.trees.specs.Holds.{Following, FirstBelow, Holding, SameUpTo, StatesBelow, HoldableWalk}
+use Rattle.trees.specs.Inner.{set_at, start_at, stack_by, stack_in, walk_in}
+use Rattle.trees.specs.Holds.{Held, StackRoom, Following, FirstBelow, Holding, SameUpTo, StatesBelow, HoldableWalk}
 use Rattle.trees.specs.Subtree.{First, nowhere, first_at, first_of}
 use Rattle.trees.specs.declared.entry.Entry.{Entry}
 use Rattle.trees.specs.declared.evaluation.Subtree.{Subtree}
-use Rattle.trees.specs.declared.evaluation.Held.{Held}
 use Rattle.trees.proofs.Walking.{among_kept, kept_below, Invariant}
 use Rattle.trees.proofs.evaluation.Entries.{set_length, set_bounded, set_before, start_before, set_last, start_last}
-use Rattle.trees.proofs.evaluation.Stacks.{length_stack, stack_up_to, starts_of, last_start, other_starts, size_of, has_consecutive, has_sizes}
+use Rattle.trees.proofs.evaluation.Stacks.{length_stack, stack_up_to}
 
 following_same : (stack stack' : List Entry) (h end : ℕ) → ((e : ℕ) → e < h → start_at stack' e ≡ start_at stack e) → Following stack h end
     → Following stack' h end
@@ -150,24 +149,6 @@ stack_held end few (t ∷ ts) fits (also (rise, low) os) =
       stack_up_to (entries_to end few (t ∷ ts)) (entries_to (end - t.size) (lower end t.size few) ts) (length ts) (end - t.size) (others end few t ts),
       stack_held (end - t.size) (lower end t.size few) ts (omega arith) os,
     )
-
--- The starts in the array are those of the trees, where their sizes add up to the end: fewer than 65,536 nodes, which an entry's start can count.
-entries_start : (end : ℕ) (few : end < 65536) (ts : List Waiting) → sizes_of ts ≡ end
-    → (e : ℕ) → e < length ts → start_at (entries_to end few ts) e ≡ get_or (starts_of ts) e 0
-unfolding sizes_of
-entries_start end few [] all e l = absurd (omega arith)
-entries_start end few (t ∷ ts) all e l =
-    elim (dec_lt e (length ts)) [
-      | yes m ↦ (others end few t ts e m).1 ∙ entries_start (end - t.size) (lower end t.size few) ts (omega arith) e m ∙ sym (other_starts t ts e m)
-      | no m ↦ let is : e ≡ length ts = omega arith in rw (is, entry_start end few t ts, last_start t ts) (omega arith)
-    ]
-
-pub entries_consecutive : (end : ℕ) (few : end < 65536) (ts : List Waiting) → sizes_of ts ≡ end → Consecutive (entries_to end few ts) (length ts) end
-entries_consecutive end few ts all = rw all at (has_consecutive (entries_to end few ts) ts (entries_start end few ts all))
-
-pub entries_sizes : (end : ℕ) (few : end < 65536) (ts : List Waiting) → sizes_of ts ≡ end
-    → map size_of (stack_in (entries_to end few ts) (length ts) end) ≡ map size_of ts
-entries_sizes end few ts all = rw all at (has_sizes (entries_to end few ts) ts (entries_start end few ts all))
 
 -- Room for one tree more is that for one of no states and no nodes.
 bare : Entry

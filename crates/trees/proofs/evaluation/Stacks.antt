@@ -24,7 +24,7 @@ use Rattle.sets.proofs.StateSets.{states_below, some_state}
 use Rattle.automaton.specs.Automaton.{Rule, Automaton, WellFormedRule}
 use Rattle.automaton.specs.Row.{rule_at}
 use Rattle.automaton.proofs.Rows.{rule_in_lem, rules_at}
-use Rattle.indexing.specs.Index.{keyed, numbers_of}
+use Rattle.indexing.specs.Index.{keyed}
 use Rattle.indexing.proofs.Indexing.{keyed_members}
 use Rattle.trees.specs.Walk.{Waiting, have_in_order, leads_to, sizes_of, joined, is_none}
 use Rattle.trees.specs.Inner.{Evaluable, set_at, start_at, in_order, rule_gives, stack_by, stack_in, ConsecutiveBy, Consecutive, start_of}
@@ -179,7 +179,7 @@ any_numbered test rules (u ∷ us) i l is =
     rw (here, any_numbered test rules us (suc i) (omega arith) (rw add-one at rest)) refl
 
 -- The states of a node's tree: the targets of the rules of its symbol whose children are in order among the topmost sets.
-module _ {A : Automaton} {index : List ℕ} (v : Evaluable A index) where
+module _ {n : ℕ} {A : Automaton} {index : List (List ℕ)} (v : Evaluable n A index) where
   rule_at_lem : (i : ℕ) → i < length A.rules → WellFormedRule A (rule_at A.rules i)
   rule_at_lem i h = all_member v.well_formed.rules (rule_in_lem A.rules i h)
 
@@ -187,12 +187,15 @@ module _ {A : Automaton} {index : List ℕ} (v : Evaluable A index) where
   children_low i h = all_map (λ q l. omega (arith, v.well_formed.states)) (rule_at_lem i h).children
 
   module _ (f : ℕ) (known : f < length A.ranks) where
+    numbers_are : get_or index f [] ≡ keyed (λ (u : Rule). u.symbol) A.rules f
+    numbers_are = v.index_is f (omega (arith, v.well_formed.symbols))
+
     rule_arity : (i : ℕ) → i < length A.rules → (rule_at A.rules i).symbol ≡ f → length (rule_at A.rules i).children ≡ get_or A.ranks f 0
     rule_arity i h is = (rule_at_lem i h).arity ∙ rw is
 
-    pub rules_ranked : (i : ℕ) → Memᴰ i (numbers_of index f) → (i < length A.rules) × (length (rule_at A.rules i).children ≡ get_or A.ranks f 0)
+    pub rules_ranked : (i : ℕ) → Memᴰ i (get_or index f []) → (i < length A.rules) × (length (rule_at A.rules i).children ≡ get_or A.ranks f 0)
     rules_ranked i m =
-        let (low, symbol) = keyed_members (λ (u : Rule). u.symbol) A.rules f i (rw (v.index_is.numbers f known) at m) in
+        let (low, symbol) = keyed_members (λ (u : Rule). u.symbol) A.rules f i (rw (numbers_are) at m) in
         (low, rule_arity i low symbol)
 
     module _ (stack : List Entry) (e : ℕ) (children : List Waiting)
@@ -212,11 +215,11 @@ module _ {A : Automaton} {index : List ℕ} (v : Evaluable A index) where
           ∙ in_order_taken (drop e stack) (rule_at A.rules i).children (get_or A.ranks f 0) arity))
       rule_leads q i h false is = sym (and-false (eqb (rule_at A.rules i).target q))
 
-      node_leads : (q : ℕ) → any (rule_gives A.rules taken q) (numbers_of index f) ≡ leads_to A.rules f children q
+      node_leads : (q : ℕ) → any (rule_gives A.rules taken q) (get_or index f []) ≡ leads_to A.rules f children q
       unfolding keyed leads_to
       node_leads q =
           let k = length A.rules in
-          rw (v.index_is.numbers f known)
+          rw (numbers_are)
           (any_keep (rule_gives A.rules taken q) _ (from 0 k)
           ∙ any_same _ _ 0 k (λ i a b. rule_leads q i (omega arith) (eqb (rule_at A.rules i).symbol f) refl)
           ∙ sym (any_numbered _ A.rules A.rules 0 (zero-add k) refl))
@@ -229,7 +232,7 @@ module _ {A : Automaton} {index : List ℕ} (v : Evaluable A index) where
           let target = eqb-true u.element.target q (and_true_out _ _ u.passes).0 in
           rw (lt-ltb q A.states (omega (arith, (all_member v.well_formed.rules u.member).target)))
 
-      pub node_joined : (new : List ℕ) → Has new (λ (q : ℕ). any (rule_gives A.rules taken q) (numbers_of index f))
+      pub node_joined : (new : List ℕ) → Has new (λ (q : ℕ). any (rule_gives A.rules taken q) (get_or index f []))
           → (size : ℕ) → size ≡ suc (sizes_of children)
           → record { states = states_in 256 new; size = size } ≡ joined A f children
       unfolding joined
@@ -275,7 +278,7 @@ module _ (stack : List Entry) (e : ℕ) (t : Entry) (place : e < length stack) w
       )
 
 -- Every stack of trees has starts: each tree starts after those under it. So the equation of a step is about every stack whose sizes add up to the
--- number of nodes.
+-- number of nodes, if it has no more trees than nodes.
 unfoldable pub starts_of : List Waiting → List ℕ
 starts_of [] = []
 starts_of (w ∷ ws) = starts_of ws ++ (sizes_of ws ∷ [])
@@ -285,11 +288,11 @@ unfolding starts_of
 length_starts [] = refl
 length_starts (w ∷ ws) = omega (arith, length-append (starts_of ws) (sizes_of ws ∷ []), length_starts ws)
 
-pub last_start : (w : Waiting) (ws : List Waiting) → get_or (starts_of (w ∷ ws)) (length ws) 0 ≡ sizes_of ws
+last_start : (w : Waiting) (ws : List Waiting) → get_or (starts_of (w ∷ ws)) (length ws) 0 ≡ sizes_of ws
 unfolding starts_of
 last_start w ws = get_or_at (starts_of ws) (sizes_of ws) [] 0 (length ws) (length_starts ws)
 
-pub other_starts : (w : Waiting) (ws : List Waiting) (e : ℕ) → e < length ws → get_or (starts_of (w ∷ ws)) e 0 ≡ get_or (starts_of ws) e 0
+other_starts : (w : Waiting) (ws : List Waiting) (e : ℕ) → e < length ws → get_or (starts_of (w ∷ ws)) e 0 ≡ get_or (starts_of ws) e 0
 unfolding starts_of
 other_starts w ws e l = get_or-append (starts_of ws) (sizes_of ws ∷ []) 0 e (omega (arith, length_starts ws))
 
@@ -303,7 +306,7 @@ starts_consecutive (w ∷ ws) =
     rw (last_start w ws)
     (omega arith, consecutive_same (starts_at ws) (starts_at (w ∷ ws)) (length ws) (sizes_of ws) (other_starts w ws) (starts_consecutive ws))
 
-abbrev pub size_of : Waiting → ℕ
+abbrev size_of : Waiting → ℕ
 size_of w = w.size
 
 pub starts_sizes : (sets : ℕ → List ℕ) (ws : List Waiting)
@@ -317,13 +320,3 @@ starts_sizes sets (w ∷ ws) =
       stack_same (starts_at (w ∷ ws)) (starts_at ws) sets sets (length ws) (sizes_of ws) (λ e l. (refl, other_starts w ws e l)),
       starts_sizes sets ws,
     )
-
--- The same of an array with these starts.
-module _ (stack : List Entry) (ws : List Waiting) (are : (e : ℕ) → e < length ws → start_at stack e ≡ get_or (starts_of ws) e 0) where
-  pub has_consecutive : Consecutive stack (length ws) (sizes_of ws)
-  has_consecutive = consecutive_same (starts_at ws) (start_at stack) (length ws) (sizes_of ws) are (starts_consecutive ws)
-
-  pub has_sizes : map size_of (stack_in stack (length ws) (sizes_of ws)) ≡ map size_of ws
-  has_sizes =
-      rw (stack_same (start_at stack) (starts_at ws) (set_at stack) (set_at stack) (length ws) (sizes_of ws) (λ e l. (refl, are e l)))
-      (starts_sizes (set_at stack) ws)

@@ -16,7 +16,7 @@ unfolding with_all
 loop-q-preserved c =
     let next = next_number c.loop-q.q-iterator c.next.new.self c.loop-q.invariant.0 c.in-Some.q c.in-Some.ensures.steps in
     let low = low_number c.in-Some.q.now (all_first (rw next.1 at c.loop-q.invariant.1)) in
-    (next.0, all_rest (rw next.1 at c.loop-q.invariant.1), rw (c.with-set.ensures, low) (c.loop-q.invariant.2 ∙ rw next.1))
+    (next.0, all_rest (rw next.1 at c.loop-q.invariant.1), rw (c.insert.ensures, low) (c.loop-q.invariant.2 ∙ rw next.1))
 
 pub returns : goal.returns
 unfolding with_all

@@ -13,13 +13,13 @@ returns-then-b-lt4 c = rw (lt-leb _ _ c.if-b-lt4.true)
 pub returns-then-symbol-ranks : goal.returns-then-symbol-ranks
 unfolding reading_of judge_rule check ◌>>◌
 returns-then-symbol-ranks c =
-    rw (le-leb _ _ c.if-b-lt4.false, ← c.number2-symbol.ensures, le-ltb _ _ c.if-symbol-ranks.true)
+    rw (le-leb _ _ c.if-b-lt4.false, ← c.number2.ensures, ← c.from-symbol.ensures, le-ltb _ _ c.if-symbol-ranks.true)
 
 pub returns-then-b-rank : goal.returns-then-b-rank
 unfolding reading_of judge_rule check ◌>>◌
 returns-then-b-rank c =
     let symbol = lt-ltb _ _ c.if-symbol-ranks.false in
-    rw (le-leb _ _ c.if-b-lt4.false, ← c.number2-symbol.ensures, symbol, ne_eqb _ _ c.if-b-rank.true)
+    rw (le-leb _ _ c.if-b-lt4.false, ← c.number2.ensures, ← c.from-symbol.ensures, symbol, ← c.from-rank.ensures, ne_eqb _ _ c.if-b-rank.true)
 
 -- The states stand from the second field on.
 pub returns-then-not-all_below : goal.returns-then-not-all_below
@@ -27,11 +27,11 @@ unfolding reading_of judge_rule check ◌>>◌
 returns-then-not-all_below c =
     let symbol = lt-ltb _ _ c.if-symbol-ranks.false in
     let states = rw part_to_end at c.if-not-all_below.ensures in
-    rw (le-leb _ _ c.if-b-lt4.false, ← c.number2-symbol.ensures, symbol, eq-eqb _ _ c.if-b-rank.false, ← states)
+    rw (le-leb _ _ c.if-b-lt4.false, ← c.number2.ensures, ← c.from-symbol.ensures, symbol, ← c.from-rank.ensures, eq-eqb _ _ c.if-b-rank.false, ← states)
 
 pub returns : goal.returns
 unfolding reading_of judge_rule check ◌>>◌
 returns c =
     let symbol = lt-ltb _ _ c.if-symbol-ranks.false in
     let states = rw part_to_end at c.if-not-all_below.ensures in
-    rw (le-leb _ _ c.if-b-lt4.false, ← c.number2-symbol.ensures, symbol, eq-eqb _ _ c.if-b-rank.false, ← states)
+    rw (le-leb _ _ c.if-b-lt4.false, ← c.number2.ensures, ← c.from-symbol.ensures, symbol, ← c.from-rank.ensures, eq-eqb _ _ c.if-b-rank.false, ← states)

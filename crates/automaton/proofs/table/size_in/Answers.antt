@@ -4,4 +4,4 @@ use Rattle.automaton.proofs.table.size_in.Goals as goal
 
 pub returns : goal.returns
 unfolding size_in
-returns c = rw (c.number2.ensures, c.number2-2.ensures, c.number2-3.ensures)
+returns c = rw (c.from.ensures, c.number2.ensures, c.from-2.ensures, c.number2-2.ensures, c.from-3.ensures, c.number2-3.ensures)

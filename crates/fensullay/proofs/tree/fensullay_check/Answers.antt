@@ -28,7 +28,6 @@ answered : (counts table tree numbers : List ℕ) (r : Checked) → 3 ≤ length
     → {answer : Result Answer Refusal} {code : ℕ} {numbers' : List ℕ} → r.answer ≡ answer → code ≡ yes_no (acceptance_of answer)
     → numbers' ≡ subtree_after (finding_of answer) numbers
     → Gives (checking counts table tree numbers) code counts' numbers'
-unfolding counts_numbers
 answered counts table tree numbers r enough room checks put told is named =
     let put = put ∙ ap (λ (c : Counts). counts_numbers c ++ drop 3 counts) checks.counts_after in
     let code = is ∙ ap yes_no (ap acceptance_of (sym told) ∙ checks.answer) in
@@ -41,7 +40,7 @@ unfolding counts_in yes_no acceptance_of finding_of is_acceptance named_by map_r
 returns-in-Ok-Accepted c =
     let room : 2 ≤ length c.args.numbers.now = omega arith in
     let e =
-    answered _ _ _ _ _ c.if-counts-lt3.false room c.check-checked.ensures c.put_counts.ensures
+    answered _ _ _ _ _ c.if-counts-lt3.false room c.check-checked.ensures (rw c.counts_numbers.ensures at c.put_all.ensures)
     (c.in-Ok-Accepted.is ∙ ap Ok (rw c.in-Ok-Accepted.is at c.in-Ok-Accepted.field-0-is)) refl refl in
     record { value = e.0; counts_after = e.1.0; numbers_after = e.1.1 }
 
@@ -52,7 +51,8 @@ returns-in-Ok-Rejected c =
     let told : c.check-checked.result.answer ≡ Ok (Rejected c.in-Ok-Rejected.field-0-0) =
     c.in-Ok-Rejected.is ∙ ap Ok (rw c.in-Ok-Rejected.is at c.in-Ok-Rejected.field-0-is) in
     let e =
-    answered _ _ _ _ _ c.if-counts-lt3.false room c.check-checked.ensures c.put_counts.ensures told refl (rw told at c.put_all.ensures) in
+    answered _ _ _ _ _ c.if-counts-lt3.false room c.check-checked.ensures (rw c.counts_numbers.ensures at c.put_all.ensures) told
+    refl (rw told at c.put_all-in-Ok-Rejected.ensures) in
     record { value = e.0; counts_after = e.1.0; numbers_after = e.1.1 }
 
 pub returns-in-Err : goal.returns-in-Err
@@ -60,5 +60,5 @@ unfolding counts_in yes_no acceptance_of finding_of map_read reading_of subtree_
 returns-in-Err c =
     let room : 2 ≤ length c.args.numbers.now = omega arith in
     let e =
-    answered _ _ _ _ _ c.if-counts-lt3.false room c.check-checked.ensures c.put_counts.ensures c.in-Err.is c.from.ensures refl in
+    answered _ _ _ _ _ c.if-counts-lt3.false room c.check-checked.ensures (rw c.counts_numbers.ensures at c.put_all.ensures) c.in-Err.is c.from.ensures refl in
     record { value = e.0; counts_after = e.1.0; numbers_after = e.1.1 }

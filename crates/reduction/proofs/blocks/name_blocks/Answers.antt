@@ -1,6 +1,5 @@
 use Rattle.std.proofs.Common.{◌∙◌, refl, arith}
 use Rattle.sets.proofs.StateLoops.{states_passed, among_done}
-use Rattle.refinement.specs.Inner.{relation_in}
 use Rattle.reduction.proofs.blocks.Naming.{Represents, lowered_none, lowered_more, named_none, named_more}
 use Rattle.reduction.proofs.blocks.name_blocks.Goals as goal
 
@@ -13,7 +12,7 @@ loop-q-preserved c =
     record {
       low = lowered_more _ l.low _ c.in-Some.q _ c.from.ensures (omega arith) c.representative.ensures.upper_bound;
       named = named_more _ l.low _ c.in-Some.q c.representative.result c.from.ensures (omega arith)
-          (Represents (relation_in c.args.relation.now.rows)) _ l.named c.representative.ensures.value;
+          (Represents c.args.relation.now) _ l.named c.representative.ensures.value;
     }
 
 pub returns-clause-low : goal.returns-clause-low

@@ -12,7 +12,7 @@ loop-q-init c r h = rw c.empty-renamed.ensures (member_empty r h)
 pub loop-q-preserved : goal.loop-q-preserved
 unfolding name_in
 loop-q-preserved c =
-    rw (c.with-renamed.ensures, c.from.ensures) (renames_more (name_in c.args.names.now) _ _ c.in-Some.q c.loop-q.invariant)
+    rw (c.insert.ensures, c.from.ensures) (renames_more (name_in c.args.names.now) _ _ c.in-Some.q c.loop-q.invariant)
 
 pub returns : goal.returns
 returns c =

@@ -2,7 +2,6 @@
 use Rattle.std.proofs.Common.{◌∙◌, refl, arith, rules, tests}
 use Rattle.std.proofs.lemmas.Iterator.{YieldsList-from_range}
 use Rattle.std.proofs.lemmas.Iterator.Search.{find_from_yields_List}
-use Rattle.refinement.specs.Inner.{relation_in}
 use Rattle.stages.specs.Steps.{equivalent}
 use Rattle.reduction.proofs.blocks.Naming.{found_first}
 use Rattle.reduction.proofs.blocks.representative.Goals as goal
@@ -10,6 +9,6 @@ use Rattle.reduction.proofs.blocks.representative.Goals as goal
 pub returns-clause-value : goal.returns-clause-value
 unfolding equivalent
 returns-clause-value c self =
-    let found = find_from_yields_List (equivalent (relation_in c.args.relation.now.rows) c.args.q) _ _ c.find.result c.find.ensures.ran
+    let found = find_from_yields_List (equivalent c.args.relation.now c.args.q) _ _ c.find.result c.find.ensures.ran
     (YieldsList-from_range 0 c.args.q c.args.q refl (omega arith)) (λ x b q k. search (rules, tests)) in
-    c.unwrap_or.ensures ∙ found_first (equivalent (relation_in c.args.relation.now.rows) c.args.q) c.find.result c.args.q (omega arith) found self
+    c.unwrap_or.ensures ∙ found_first (equivalent c.args.relation.now c.args.q) c.find.result c.args.q (omega arith) found self

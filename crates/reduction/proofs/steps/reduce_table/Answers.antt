@@ -8,12 +8,12 @@ use Rattle.reduction.proofs.steps.reduce_table.Goals as goal
 
 pub simulate_left-rounds-requires : goal.simulate_left-rounds-requires
 simulate_left-rounds-requires c =
-    rw c.trim-trimmed.ensures (trimmed_simulable c.args.table (rw c.table.view_is at c.table.invariant))
+    rw c.trim-trimmed.ensures (trimmed_simulable c.args.table (rw c.table.view_is at c.table.invariant.0))
 
 pub number-requires : goal.number-requires
 unfolding reduce shortened
 number-requires c =
-    let w : WellFormed c.args.table = rw c.table.view_is at c.table.invariant in
+    let w : WellFormed c.args.table = rw c.table.view_is at c.table.invariant.0 in
     let ranks : c.table.inside.ranks.now ≡ c.args.table.ranks = ap (λ (A : Automaton). A.ranks) c.table.view_is in
     let h = reduce_well_formed c.args.table w in
     search rules

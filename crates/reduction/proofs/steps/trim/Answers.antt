@@ -15,7 +15,7 @@ unfolding among any
 none_final words e q l = rw e (member_empty q l)
 
 pub keep_named-requires-clause-few : goal.keep_named-requires-clause-few
-keep_named-requires-clause-few c = rw length-map at c.table.invariant.count
+keep_named-requires-clause-few c = rw length-map at c.table.invariant.0.count
 
 pub keep_named-requires-clause-finals : goal.keep_named-requires-clause-finals
 keep_named-requires-clause-finals c q m = meet_inside c.table.inside.finals.words _ q (rw c.meet.ensures at m)
@@ -23,6 +23,6 @@ keep_named-requires-clause-finals c q m = meet_inside c.table.inside.finals.word
 pub returns : goal.returns
 returns c =
     let A = automaton_of c.table.inside in
-    let w = c.table.invariant in
+    let w = c.table.invariant.0 in
     c.keep_named.ensures ∙ rw (c.meet.ensures, ← c.table.view_is) (trimmed_is A w c.table.inside.finals.words _ refl
     (c.grow-states.ensures (without_finals A w) (without_finals_sound A w) refl (none_final _ c.empty.ensures)))

@@ -2,13 +2,14 @@ use Rattle.std.proofs.Common.{◌≡◌, ◌<◌, ◌&&◌, ℕ, Bool, List, not
 use lib.Dec.{eqb}
 use lib.Pointwise.{pointwise}
 use Rattle.lists.specs.Lists.{among, any}
-use Rattle.sets.specs.Set.{same_set}
+use Rattle.sets.specs.Set.{member, same_set}
 use Rattle.sets.specs.Entries.{entry_at}
 use Rattle.sets.specs.declared.set.StateSet.{StateSet}
 use Rattle.sets.proofs.EntrySets.{entry_read}
 use Rattle.sets.proofs.StateSets.{member_empty, same_pairs}
 use Rattle.sets.proofs.StateLoops.{states_passed, among_done, passed_in, passed_out}
 use Rattle.refinement.specs.Inner.{Copied}
+use Rattle.refinement.proofs.RelationRows.{related_in}
 use Rattle.refinement.proofs.rounds.Replacing.{replaced_none, replaced_more, replaced_in}
 use Rattle.refinement.proofs.rounds.copy_rows.Goals as goal
 
@@ -46,9 +47,10 @@ loop-q-preserved c = record {
 
 pub returns-clause-copied : goal.returns-clause-copied
 unfolding Copied
-returns-clause-copied c q h =
+returns-clause-copied c q h is r b =
     let p = states_passed c.args.states.words _ _ c.states-q-items.ensures c.into_iter-q-iterator.ensures.into_iter_gives c.loop-q.yielded_by in
-    replaced_in _ c.loop-q.invariant.copied (among_done p c.in-None.ensures.steps.0) q h
+    ap (λ (row : List ℕ). member row r) (replaced_in _ c.loop-q.invariant.copied (among_done p c.in-None.ensures.steps.0) q h is)
+    ∙ sym (related_in c.args.rows.now q r h b)
 
 pub returns-clause-has : goal.returns-clause-has
 returns-clause-has c r h =

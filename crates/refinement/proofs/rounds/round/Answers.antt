@@ -13,7 +13,7 @@ use Rattle.sets.proofs.StateSets.{same_pairs, same_set_out, sets_differ}
 use Rattle.automaton.specs.Row.{rule_of, rules_of}
 use Rattle.refinement.specs.Inner.{touches}
 use Rattle.refinement.proofs.RuleRows.{rules_more, rule_in}
-use Rattle.refinement.proofs.rounds.Underway.{rounded_none, rounded_pass, rounded_kept, rounded_fewer, rounded_all, rounded_below}
+use Rattle.refinement.proofs.rounds.Underway.{rounded_none, rounded_pass, rounded_kept, rounded_fewer, rounded_all}
 use Rattle.refinement.proofs.rounds.round.Goals as goal
 use Rattle.refinement.proofs.rounds.round.Goals.{then-touched+then-ne, then-touched+else-ne, else-touched}
 
@@ -26,29 +26,17 @@ module _ (now was : StateSet) {row : List ℕ} (is : was.words ≡ row) where
   other_row e = rw (← is) (sets_differ now.words was.words now.four was.four now.bits was.bits (sym (same_pairs now was) ∙ not-true _ (sym e)))
 
 pub loop-rule-init : goal.loop-rule-init
-loop-rule-init c states m a = rw c.empty-lost.ensures (rounded_none _ _ a.copied)
-
-pub narrow-narrowed-requires : goal.narrow-narrowed-requires
-narrow-narrowed-requires c =
-    let a = c.requires.1.1 in
-    let known = a.targets _ (rule_in c.args.rules.now _ _ c.loop-rule-test.true c.rule-item.is) in (
-      _,
-      (
-        a.answering,
-        rw (entry_read c.loop-rule.next c.from.result c.index-next-from.result (omega arith), c.from.ensures, c.target-q.ensures)
-            (rounded_below (c.loop-rule.invariant _ _ a) _ a.low _ known.0 known.1),
-      ),
-    )
+loop-rule-init g c states a = rw c.empty-lost.ensures (rounded_none _ _ a.copied)
 
 pub loop-rule-preserved : goal.loop-rule-preserved
 unfolding touches
-loop-rule-preserved c states m a =
+loop-rule-preserved g c states a =
     let known = a.targets _ (rule_in c.args.rules.now _ _ c.loop-rule-test.true c.rule-item.is) in
     let touched = touches c.args.changed.words in
     let others = rules_of c.args.others.now in
     let passed = rules_of (take c.loop-rule.rule-index c.args.rules.now) in
     let u = rule_of c.rule-item.result in
-    let before = c.loop-rule.invariant states m a in
+    let before = c.loop-rule.invariant states a in
     let children = ap (any (member c.args.changed.words)) c.children.ensures in
     rw (rules_more c.args.rules.now c.loop-rule.rule-index c.rule-item.result c.loop-rule-test.true c.rule-item.is)
     (elim c.if-touched.branch [
@@ -56,7 +44,7 @@ loop-rule-preserved c states m a =
           let was = get_or c.loop-rule.next w.from.result w.index-next-from.result in
           let held = entry_read c.loop-rule.next w.from.result w.index-next-from.result (omega arith)
           ∙ ap (entry_at c.loop-rule.next) (w.from.ensures ∙ w.target-q.ensures) in
-          let narrowed = rw held at (w.narrow-narrowed.ensures m a.answering (rw held (rounded_below before m a.low u.target known.0 known.1))) in
+          let narrowed = rw held at w.narrow-narrowed.ensures in
           rw (w.next-is, w.lost-is, w.insert.ensures, w.from-then-ne.ensures, w.target-q.ensures)
           (rounded_fewer touched others passed u before w.narrow-narrowed.result (sym (w.if-touched.ensures ∙ children)) known.0 known.1 narrowed
           (omega arith) (other_row w.narrow-narrowed.result was held w.if-ne.ensures))
@@ -64,7 +52,7 @@ loop-rule-preserved c states m a =
           let was = get_or c.loop-rule.next w.from.result w.index-next-from.result in
           let held = entry_read c.loop-rule.next w.from.result w.index-next-from.result (omega arith)
           ∙ ap (entry_at c.loop-rule.next) (w.from.ensures ∙ w.target-q.ensures) in
-          let narrowed = rw held at (w.narrow-narrowed.ensures m a.answering (rw held (rounded_below before m a.low u.target known.0 known.1))) in
+          let narrowed = rw held at w.narrow-narrowed.ensures in
           rw (w.next-is, w.lost-is)
           (rounded_kept touched others passed u before w.narrow-narrowed.result (sym (w.if-touched.ensures ∙ children)) known.0 known.1 narrowed
           (same_row w.narrow-narrowed.result was held w.if-ne.ensures))
@@ -72,6 +60,6 @@ loop-rule-preserved c states m a =
     ])
 
 pub returns : goal.returns
-returns c states m a quiet =
+returns g c states a quiet =
     let all : take c.loop-rule.rule-index c.args.rules.now ≡ c.args.rules.now = take_all c.loop-rule.rule-index c.args.rules.now (omega arith) in
-    rounded_all _ _ _ quiet (rw all at (c.loop-rule.invariant states m a))
+    rounded_all _ _ _ quiet (rw all at (c.loop-rule.invariant states a))

@@ -1,9 +1,12 @@
 -- The report on what is taken of the input stands at the start of the buffer.
-use Rattle.reporting.proofs.Reporting.{report_written}
+use Rattle.std.proofs.Common.{[], refl, zero-add}
+use Rattle.lists.proofs.Overwriting.{over_behind}
+use Rattle.reporting.specs.Report.{report}
 use Rattle.reporting.proofs.lines.report.Goals as goal
 
-pub returns-clause-value : goal.returns-clause-value
-returns-clause-value c = (report_written _ _ _ _ _ c.first.ensures c.report_on.ensures).0
-
-pub returns-clause-out_after : goal.returns-clause-out_after
-returns-clause-out_after c = (report_written _ _ _ _ _ c.first.ensures c.report_on.ensures).1
+pub returns : goal.returns
+unfolding report
+returns c = record {
+  value = rw (c.place.ensures, c.put_report.ensures, c.new-pen.ensures, c.first.ensures) (zero-add _);
+  out_after = rw (c.put_report.ensures, c.new-pen.ensures, c.first.ensures) (over_behind [] _ _ 0 refl);
+}

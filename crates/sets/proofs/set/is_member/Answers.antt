@@ -5,4 +5,4 @@ use Rattle.sets.proofs.set.is_member.Goals as goal
 
 pub returns : goal.returns
 unfolding member
-returns c = refl
+returns c = rw c.from.ensures refl

@@ -10,7 +10,7 @@ use Rattle.simulation.proofs.Acceptance.{table_refused, few_rules, table_found}
 use Rattle.simulation.proofs.checking.check_tree_in.Goals as goal
 
 pub decode-requires : goal.decode-requires
-decode-requires g c = λ k few long. rw length-replicate (c.requires.room k few long).0
+decode-requires g c = λ k few long. rw length-replicate (c.requires.room k few long)
 
 pub returns-in_err-decoded : goal.returns-in_err-decoded
 unfolding finding_of reading_of map_read
@@ -22,7 +22,7 @@ pub accept_tree-requires : goal.accept_tree-requires
 unfolding reading_of
 accept_tree-requires g c =
     let e = sym c.in_ok-decoded.ensures in
-    rw length-replicate (c.requires.room _ (judged_well_formed _ _ e).count (few_rules _ _ e (λ i. (c.type_inv.table i).fits))).1
+    (c.requires.room _ (judged_well_formed _ _ e).count (few_rules _ _ e (λ i. (c.type_inv.table i).fits)), c.requires.few)
 
 pub returns : goal.returns
 unfolding reading_of

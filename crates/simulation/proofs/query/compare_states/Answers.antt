@@ -1,6 +1,5 @@
 -- None where the pair is in the relation, and otherwise the first rule without a match.
-use Rattle.std.proofs.Common.{◌≡◌, sym, ap, ◌∙◌, arith}
-use Rattle.indexing.specs.Index.{numbers_of}
+use Rattle.std.proofs.Common.{sym, ap, ◌∙◌, arith}
 use Rattle.refinement.specs.Simulation.{Relation, related}
 use Rattle.simulation.specs.Query.{simulation_of, compared_by, is_yes}
 use Rattle.simulation.proofs.Queries.{first_answers}
@@ -13,12 +12,12 @@ returns-then-has c = record {
   first = λ i f. cc;
 }
 
+pub first_unmatched-requires : goal.first_unmatched-requires
+first_unmatched-requires c = rw c.rules.ensures c.simulate_all.ensures.indexed
+
 pub returns : goal.returns
 unfolding simulation_of
 returns c =
     let after = c.simulate_all.ensures.relation_after in
     let out = sym (c.has.ensures ∙ ap (λ (R : Relation). related R c.args.q c.args.r) after) ∙ c.if-has.false in
-    let part : c.numbers_of-numbers.result.now ≡ numbers_of c.simulate_all.new.index c.args.r = rw c.from.ensures at c.numbers_of-numbers.ensures in
-    let numbers = part ∙ c.simulate_all.ensures.answering.index_is.numbers c.args.r (omega arith) in
-    first_answers _ _ _ _ (omega arith) (omega arith) _ out
-    (rw (after, c.rules.ensures) at (c.first_unmatched.ensures c.args.r (rw c.rules.ensures numbers)))
+    first_answers _ _ _ _ (omega arith) (omega arith) _ out (rw (after, c.rules.ensures) at c.first_unmatched.ensures)

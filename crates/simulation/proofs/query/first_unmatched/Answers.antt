@@ -14,7 +14,7 @@ use Rattle.automaton.specs.declared.row.Row.{Row}
 use Rattle.indexing.specs.Index.{keyed}
 use Rattle.indexing.proofs.Indexing.{rules_long}
 use Rattle.refinement.specs.Simulation.{Relation, matched_by}
-use Rattle.refinement.specs.Inner.{relation_in, answered}
+use Rattle.refinement.specs.Inner.{answered}
 use Rattle.refinement.proofs.Answering.{keyed_within, keyed_matched}
 use Rattle.simulation.specs.Inner.{FirstUnmatched}
 use Rattle.simulation.proofs.query.first_unmatched.Goals as goal
@@ -58,14 +58,14 @@ module _ (R : Relation) (rows : List Row) (numbers : List ℕ) (q : ℕ) where
 
 pub position-requires-clause-callable : goal.position-requires-clause-callable
 position-requires-clause-callable c =
-    let (r, e) = c.requires in
-    let within = keyed_within c.args.rules.now r e in
+    let within = keyed_within c.args.rules.now c.args.r (c.numbers-numbers.ensures ∙ c.requires c.args.r (omega arith)) in
     serves_from_places (YieldsList-from_slice c.args.rules.now cc) (λ x q k. search rules) (λ x k l h. search (rules, within))
 
 pub returns : goal.returns
-returns c = λ r e.
-    first_is (relation_in c.args.relation.now.rows) c.args.rules.now c.args.numbers.now c.args.q r e c.position.result
+returns c =
+    first_is c.args.relation.now c.args.rules.now c.numbers-numbers.result.now c.args.q c.args.r
+    (c.numbers-numbers.ensures ∙ c.requires c.args.r (omega arith)) c.position.result
     (IsFirst-from_position _ _ c.position.result
-    (λ (row : Row). unmatched (relation_in c.args.relation.now.rows) c.args.rules.now c.args.numbers.now c.args.q row ≡ true)
-    (λ (row : Row). unmatched (relation_in c.args.relation.now.rows) c.args.rules.now c.args.numbers.now c.args.q row ≡ false)
+    (λ (row : Row). unmatched c.args.relation.now c.args.rules.now c.numbers-numbers.result.now c.args.q row ≡ true)
+    (λ (row : Row). unmatched c.args.relation.now c.args.rules.now c.numbers-numbers.result.now c.args.q row ≡ false)
     c.position.ensures.ran (YieldsList-from_slice c.args.rules.now cc) (λ x q k. search (rules, tests)) (λ x q k. search (rules, tests)))

@@ -1,5 +1,6 @@
 -- Where the table is not refused and the room suffices, the relation's rows are written and their states counted.
-use Rattle.std.proofs.Common.{sym, arith}
+use Rattle.std.proofs.Common.{sym, arith, ◌∙◌}
+use Rattle.std.proofs.lemmas.List.{length-take}
 use Rattle.std.proofs.lemmas.Result.{err_from_is_err_and}
 use Rattle.records.specs.Answers.{reading_of}
 use Rattle.simulation.proofs.Queries.{states_of, query_refused, query_short, query_written}
@@ -22,18 +23,24 @@ returns-then-out-n c =
     let (value, after) = query_short _ _ _ c.size-n.ensures.well_formed (sym c.in_ok-decoded.ensures) (omega arith) in
     record { result_value = value; out_after = after }
 
-pub put_rows-requires-clause-n_bound : goal.put_rows-requires-clause-n_bound
-put_rows-requires-clause-n_bound c = omega (arith, states_of _ _ c.size-n.ensures.value, c.size-n.ensures.well_formed.states)
+pub shared_ref_as_front-related : goal.shared_ref_as_front-related
+shared_ref_as_front-related c = omega (arith, states_of _ _ c.size-n.ensures.value, c.size-n.ensures.well_formed.states)
 
 pub count_pairs-requires : goal.count_pairs-requires
-count_pairs-requires c = omega (arith, states_of _ _ c.size-n.ensures.value, c.size-n.ensures.well_formed.states)
+count_pairs-requires c =
+    omega (
+      arith,
+      states_of _ _ c.size-n.ensures.value,
+      c.size-n.ensures.well_formed.states,
+      length-take c.size-n.result.states c.rows.result.now,
+    )
 
 pub returns : goal.returns
 unfolding reading_of
 returns c =
     let n = states_of _ _ c.size-n.ensures.value in
     let (value, after) =
-    query_written _ _ _ c.size-n.ensures.well_formed (sym c.in_ok-decoded.ensures) c.simulate_all-rounds.new.relation.rows _ _ _ (omega arith)
-    c.simulate_all-rounds.ensures.relation_after c.simulate_all-rounds.ensures.value (rw n at c.put_rows.ensures)
+    query_written _ _ _ c.size-n.ensures.well_formed (sym c.in_ok-decoded.ensures) c.rows.result.now _ _ _ (omega arith)
+    (omega (arith, length-take c.size-n.result.states c.rows.result.now)) (c.rows.ensures ∙ c.simulate_all-rounds.ensures.relation_after) c.simulate_all-rounds.ensures.value (rw n at c.put_rows.ensures)
     (rw n at c.count_pairs.ensures) in
     record { result_value = value; out_after = after }

@@ -8,13 +8,13 @@ pub invariant_of-self : goal.invariant_of-self
 invariant_of-self c =
     let w = get_or c.args.self.now.words (c.args.q / 64) 0 in
     let p = 1 * 2 ^ (c.args.q % 64) % 18446744073709551616 in
-    record {
+    rw c.from.ensures (record {
       four = length-set _ _ _ ∙ c.args.self.now.four;
       bits = bounded_put _ _ _ c.args.self.now.bits (or_lt 64 w p (c.args.self.now.bits _) (omega arith));
-    }
+    })
 
 pub returns : goal.returns
 unfolding with_state
 returns c =
     let low : c.args.q / 64 < 4 = omega arith in
-    rw (one_bit (c.args.q % 64) (omega arith)) (set_replaced _ _ _ c.args.self.now.four low)
+    rw (c.from.ensures, one_bit (c.args.q % 64) (omega arith)) (set_replaced _ _ _ c.args.self.now.four low)

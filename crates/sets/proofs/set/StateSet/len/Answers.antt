@@ -1,24 +1,17 @@
-use Rattle.std.proofs.Common.{◌≡◌, ◌<◌, ◌^◌, ◌∙◌, arith, rules, refl, get_or}
-use Rattle.lists.specs.Lists.{keep, from}
-use Rattle.sets.specs.Inner.{states_in}
-use Rattle.sets.proofs.StateLists.{ones_word, ones_few}
+use Rattle.std.proofs.Common.{◌≡◌, ◌^◌, ◌∙◌, arith, rules}
+use Rattle.std.proofs.lemmas.Iterator.{YieldsList-from_slice}
+use Rattle.std.proofs.lemmas.Iterator.Adapters.{fits_from_length, at_most_from_yields_List}
+use Rattle.std.specs.List.{sum_by}
+use lib.Count.{ones}
+use Rattle.sets.proofs.StateLists.{ones_set}
 use Rattle.sets.proofs.set.StateSet.len.Goals as goal
 
-pub loop-word-init : goal.loop-word-init
-unfolding keep from
-loop-word-init c = record { fits = omega arith; counted = refl }
-
-pub loop-word-preserved : goal.loop-word-preserved
-loop-word-preserved c =
-    let small : get_or c.args.self.words c.loop-word.word-index 0 < 2 ^ 64 = search rules in
-    let few = ones_few c.args.self.words c.loop-word.word-index small in
-    record {
-      fits = omega arith;
-      counted = omega (arith, ones_word c.args.self.words c.loop-word.word-index small);
-    }
+pub sum-requires-clause-fits : goal.sum-requires-clause-fits
+sum-requires-clause-fits c =
+    fits_from_length _ _ 4 (2 ^ 64) (at_most_from_yields_List (YieldsList-from_slice c.args.self.words cc) (omega (arith, c.args.self.four))) c.map.ensures.closure (omega arith)
+    (λ x r q k. search rules)
 
 pub returns : goal.returns
-unfolding states_in
 returns c =
-    let all : c.loop-word.word-index ≡ 4 = search rules in
-    c.loop-word.invariant.counted ∙ rw all refl
+    let summed : c.sum.result ≡ sum_by ones c.args.self.words = search rules in
+    summed ∙ ones_set c.args.self.words c.args.self.four c.args.self.bits

@@ -7,4 +7,4 @@ pub returns : goal.returns
 unfolding without_state
 returns c =
     let low : c.args.q / 64 < 4 = omega arith in
-    rw (masked (get_or c.args.self.now.words (c.args.q / 64) 0) (c.args.q % 64) (c.args.self.now.bits _) (omega arith)) (set_replaced _ _ _ c.args.self.now.four low)
+    rw (c.from.ensures, masked (get_or c.args.self.now.words (c.args.q / 64) 0) (c.args.q % 64) (c.args.self.now.bits _) (omega arith)) (set_replaced _ _ _ c.args.self.now.four low)

@@ -14,12 +14,12 @@ use Rattle.trees.proofs.evaluation.Evaluator.targets.Goals as goal
 
 pub loop-i-init : goal.loop-i-init
 unfolding any empty_set words gathered
-loop-i-init c = λ q low. member_empty q low
+loop-i-init g c = λ q low. member_empty q low
 
 pub bounds-rules-from : goal.bounds-rules-from
-bounds-rules-from c =
+bounds-rules-from g c =
     let ranked = (rw (← c.self.view_is) at c.requires) _ (at_member c.args.numbers.now c.loop-i.i-index c.loop-i-test.true) in
-    rw c.from.ensures (omega (arith, ranked.0, length-map c.self.inside.rules.now rule_of))
+    rw c.from.ensures (omega (arith, ranked.0, ap length c.rules-rules.ensures, length-map c.rules-rules.result.now rule_of))
 
 -- The rule of the row that is looked at.
 row_rule : (A : Automaton) (rows : List Row) (i k : ℕ) (row : Row) → rules_of rows ≡ A.rules → i ≡ k → k < length A.rules
@@ -29,18 +29,18 @@ row_rule A rows i k row are same low is =
     rule_is rows i row within is ∙ rw (are, same)
 
 pub slice_bounds-children-end : goal.slice_bounds-children-end
-slice_bounds-children-end c =
+slice_bounds-children-end g c =
     let ranked = c.requires _ (at_member c.args.numbers.now c.loop-i.i-index c.loop-i-test.true) in
-    let rule = row_rule c.args.self.now _ _ _ _ (ap (λ (A : Automaton). A.rules) c.self.view_is) c.from.ensures ranked.0 c.index-rules-from.is in
+    let rule = row_rule c.args.self.now _ _ _ _ (c.rules-rules.ensures ∙ ap (λ (A : Automaton). A.rules) c.self.view_is) c.from.ensures ranked.0 c.index-rules-from.is in
     rw c.children.ensures (omega (arith, length-take {A = ℕ}, ap (λ (u : Rule). length u.children) rule, ranked.1))
 
 pub fits-requires : goal.fits-requires
-fits-requires c = omega (arith, length-take {A = ℕ})
+fits-requires g c = omega (arith, length-take {A = ℕ})
 
 pub loop-i-preserved : goal.loop-i-preserved
-loop-i-preserved c =
+loop-i-preserved g c =
     let ranked = c.requires _ (at_member c.args.numbers.now c.loop-i.i-index c.loop-i-test.true) in
-    let rule = row_rule c.args.self.now _ _ _ _ (ap (λ (A : Automaton). A.rules) c.self.view_is) c.from.ensures ranked.0 c.index-rules-from.is in
+    let rule = row_rule c.args.self.now _ _ _ _ (c.rules-rules.ensures ∙ ap (λ (A : Automaton). A.rules) c.self.view_is) c.from.ensures ranked.0 c.index-rules-from.is in
     let all : length (rule_of c.index-rules-from.result).children ≤ length c.args.trees.now =
     omega (arith, ap (λ (u : Rule). length u.children) rule, ranked.1) in
     rw (
@@ -53,5 +53,5 @@ loop-i-preserved c =
     (rw (← rule) at (targets_one_more c.args.self.now.rules c.args.numbers.now c.args.trees.now _ c.loop-i.i-index c.loop-i-test.true c.loop-i.invariant))
 
 pub returns : goal.returns
-returns c =
+returns g c =
     rw (c.gathered.ensures, ← take_all c.loop-i.i-index c.args.numbers.now c.loop-i-test.false) c.loop-i.invariant
