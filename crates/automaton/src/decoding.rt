@@ -11,6 +11,7 @@ ghost use Rattle.automaton.specs.Inner.{RowsRoom};
 
 use crate::head::Head;
 use crate::row::Row;
+use crate::shared::TableRef;
 use crate::table::Size;
 use records::Refusal;
 use sets::StateSet;
@@ -55,34 +56,42 @@ impl<'t, 'r> Table<'t, 'r> {
         }
     }
 
+    // The same table, with its rules shared.
+    pub fn view(&self) -> TableRef<'_>
+        ensures { result ≡ self.now }
+    {
+        TableRef {
+            states: self.states,
+            ranks: self.ranks,
+            finals: self.finals,
+            rules: self.rules,
+        }
+    }
+
     // Its counts.
     pub fn size(&self) -> Size
         ensures value { result ≡ size_of self.now }
         ensures well_formed { WellFormed self.now }
     {
-        Size {
-            states: self.states,
-            symbols: self.ranks.len(),
-            rules: self.rules.len(),
-        }
+        self.view().size()
     }
 
     pub fn ranks(&self) -> &[u8]
         ensures { result.now ≡ self.now.ranks }
     {
-        self.ranks
+        self.view().ranks()
     }
 
     pub fn finals(&self) -> StateSet
         ensures { self.now.finals ≡ states_in 256 result.words }
     {
-        self.finals
+        self.view().finals()
     }
 
     pub fn rules(&self) -> &[Row]
         ensures { rules_of result.now ≡ self.now.rules }
     {
-        self.rules
+        self.view().rules()
     }
 }
 

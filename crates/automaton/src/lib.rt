@@ -5,6 +5,7 @@
 mod decoding;
 mod head;
 mod row;
+mod shared;
 mod table;
 mod writing;
 
@@ -15,4 +16,5 @@ pub use table::{Size, judge};
 // Exported for the crates above. `decode` asks for room in its array.
 pub use decoding::{Table, decode};
 pub use row::{FEW_RULES, RULES, Row};
+pub use shared::TableRef;
 pub use writing::write;

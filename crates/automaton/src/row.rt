@@ -68,6 +68,14 @@ impl Row {
         &self.children[..usize::from(self.rank)]
     }
 
+    // The same, where their number is known already: the row is not asked for it.
+    pub fn children_of_rank(&self, rank: usize) -> &[u8]
+        requires { rank ≡ length (rule_of self.now).children }
+        ensures { result.now ≡ (rule_of self.now).children }
+    {
+        &self.children[..rank]
+    }
+
     // The rule with new names for its states.
     pub fn renamed(self, names: &[u8]) -> Row
         requires { 256 ≤ length names.now }

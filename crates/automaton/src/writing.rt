@@ -11,8 +11,8 @@ ghost use Rattle.records.specs.Answers.{reading_of};
 ghost use Rattle.automaton.specs.Table.{encode, encode_rule, encode_rules};
 ghost use Rattle.automaton.specs.Row.{rule_of, rules_of};
 
-use crate::decoding::Table;
 use crate::row::Row;
+use crate::shared::TableRef;
 use crate::table::Size;
 use records::{Kind, Pen, Refusal};
 use sets::StateSet;
@@ -74,6 +74,16 @@ fn put_size(pen: &mut Pen, size: Size)
     pen.put2(size.rules as u16);
 }
 
+// Some bytes, one after the other. They may stand anywhere: one copy of them all, which might overlap, would ask for the C library's `memmove`.
+fn put_each(pen: &mut Pen, bytes: &[u8])
+    requires { HasRoom (length bytes.now) pen.old }
+    ensures { pen.new ≡ put_in bytes.now pen.old }
+{
+    for byte in bytes {
+        pen.put(&[*byte]);
+    }
+}
+
 // The second record: the ranks.
 fn put_ranks(pen: &mut Pen, ranks: &[u8])
     requires few { length ranks.now ≤ 256 }
@@ -81,7 +91,7 @@ fn put_ranks(pen: &mut Pen, ranks: &[u8])
     ensures { pen.new ≡ put_in (encode_record 2 ranks.now) pen.old }
 {
     pen.put_head(u16::from(Kind::Ranks), ranks.len());
-    pen.put(ranks);
+    put_each(pen, ranks);
 }
 
 // The third record: the final states.
@@ -94,7 +104,7 @@ fn put_finals(pen: &mut Pen, finals: StateSet)
 }
 
 // Writes a decoded table to the start of `out` and returns its length; refusal 13, and nothing written, where the room is short.
-pub fn write(table: &Table, out: &mut [u8]) -> Result<usize, Refusal>
+pub fn write(table: &TableRef, out: &mut [u8]) -> Result<usize, Refusal>
     ensures result_value { reading_of result ≡ written (encode table.now) out.old }
     ensures out_after { out.new ≡ written_over (encode table.now) out.old }
 {

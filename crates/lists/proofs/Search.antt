@@ -1,6 +1,7 @@
 -- A search through a list (`any`), a test of all its elements (`all`) and membership as a test (`among`): what each says of the elements, and back;
 -- through other lists, by other tests, and from an index on as loops go. By induction on the list or on the membership.
 use Prim.Native.Nat.{ℕ, ◌+◌, ◌≤◌, ◌<◌}
+use native.Mathlib.Omega.{arith}
 use mathlib.Core.Path.{◌≡◌, refl, sym, ap₂, ap, ◌∙◌}
 use mathlib.Core.List.Memᴰ
 use mathlib.Core.List.{List, [], ◌∷◌, Memᴰ, ◌++◌, map}
@@ -10,8 +11,9 @@ use borrow.Author.Tests.{eq-eqb, eqb-true}
 use mathlib.Core.Logic.{◌⊎◌, inl, inr}
 use Rattle.std.specs.List.{list_all, list_any}
 use Rattle.lists.specs.Lists.{all, keep, among, from, any}
-use Rattle.lists.proofs.Booleans.{and_true_in, and_true_out, or_false_in, or_true_left, or_true_out, or_true_right}
-use Rattle.lists.proofs.Ranges.{each_from}
+use Rattle.lists.proofs.Booleans.{same_bool, and_true_in, and_true_out, or_false_in, or_true_left, or_true_out, or_true_right}
+use Rattle.lists.proofs.Keeping.{keep_in, keep_out}
+use Rattle.lists.proofs.Ranges.{each_from, from_member}
 
 -- The element that a search finds.
 pub record Found {A : Type 0} (test : A → Bool) (xs : List A) : Type 0 where
@@ -127,3 +129,9 @@ among_out xs q h =
 pub among_in : {xs : List ℕ} {q : ℕ} → Memᴰ q xs → among xs q ≡ true
 unfolding among
 among_in {xs} {q} m = any_in (λ (p : ℕ). eqb p q) m (eq-eqb q q refl)
+
+-- Among what is kept of a range.
+pub among_kept : (test : ℕ → Bool) (n q : ℕ) → q < n → among (keep test (from 0 n)) q ≡ test q
+among_kept test n q h =
+    same_bool (λ e. (keep_out test (from 0 n) (among_out (keep test (from 0 n)) q e)).1)
+    (λ e. among_in (keep_in test (from_member n 0 q (omega arith) (omega arith)) e))

@@ -30,7 +30,7 @@ pub fn reduce(table: &[u8], out: &mut [u8]) -> Result<Reduction, Refusal>
     let decoded = decode(table, &mut rows)?;
     let old = decoded.size();
     let short = reduce_table(decoded);
-    let length = write(&short.table, out)?;
+    let length = write(&short.table.view(), out)?;
     Ok(Reduction {
         length,
         old,

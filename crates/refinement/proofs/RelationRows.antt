@@ -6,7 +6,7 @@ use mathlib.Core.Bool.{Bool, true, false, cond, ◌&&◌}
 use native.Mathlib.Omega.{arith}
 use Rattle.lists.specs.Lists.{from, keep}
 use Rattle.lists.proofs.Keeping.{keep_append, keep_map, keep_both, keep_agree, keep_none}
-use Rattle.lists.proofs.Ranges.{from_member, member_from}
+use Rattle.lists.proofs.Ranges.{member_from}
 use Rattle.sets.specs.Set.{member, empty_set}
 use Rattle.sets.specs.Entries.{entry_at}
 use Rattle.sets.specs.Inner.{states_in, Has}
@@ -15,7 +15,8 @@ use Rattle.sets.proofs.StateSets.{member_empty}
 use Rattle.automaton.specs.Automaton.{Rule}
 use Rattle.refinement.specs.Simulation.{related, survives, refine, all_pairs}
 use Rattle.refinement.specs.Inner.{relation_in}
-use Rattle.refinement.proofs.Refinement.{member_related, pair_member, member_pair, keep_related, refine_related}
+use Rattle.refinement.specs.Rows.{related_row}
+use Rattle.refinement.proofs.Refinement.{member_pair, refine_related}
 
 -- The pairs of states that pass a test each.
 keep_all_pairs : (f g : ℕ → Bool) (qs rs : List ℕ)
@@ -44,11 +45,7 @@ all_below p m =
 
 pub related_in : (rows : List StateSet) (q r : ℕ) → q < 256 → r < 256
     → related (relation_in rows) q r ≡ member (entry_at rows q) r
-unfolding relation_in
-related_in rows q r a b =
-    keep_related (λ (p : ℕ × ℕ). member (entry_at rows p.0) p.1) (all_pairs (from 0 256) (from 0 256)) q r
-    ∙ rw (member_related (pair_member (from_member 256 0 q (omega arith) (omega arith))
-    (from_member 256 0 r (omega arith) (omega arith))))
+related_in = related_row
 
 relation_is : (rows : List StateSet) (test : ℕ × ℕ → Bool)
     → ((q : ℕ) → q < 256 → Has (entry_at rows q) (λ (r : ℕ). test (q, r)))

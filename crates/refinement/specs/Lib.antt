@@ -1,2 +1,3 @@
 pub mod Simulation
 pub mod Inner
+pub mod Rows

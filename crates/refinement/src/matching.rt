@@ -6,22 +6,30 @@ ghost use Rattle.refinement.specs.Simulation as simulation;
 ghost use Rattle.refinement.specs.Inner.{relation_in};
 
 use automaton::Row;
-use sets::StateSet;
+use sets::{StateSet, is_member};
 use std::marker::Model;
 
-// A relation of states: row q is the set of the states that q is related to. Contracts see its pairs.
-#[derive(Drop)]
+// A relation of states: row q is the set of the states that q is related to. Contracts see its pairs, which fix its rows.
+#[derive(Clone, Copy)]
 pub struct Relation {
     pub(crate) rows: [StateSet; 256],
 }
 
 impl Model for Relation {
+    ghost use Rattle.std.specs.Prelude.{◌≡◌, length};
     ghost use Rattle.refinement.specs.Simulation.{Relation};
     ghost use Rattle.refinement.specs.Inner.{relation_in};
+    ghost use Rattle.refinement.specs.Rows.{rows_of, rows_back};
 
     ghost Value = { Relation };
 
     ghost view = { λ r. relation_in r.rows };
+
+    ghost invariant = { λ r. length r.rows ≡ 256 };
+
+    ghost inverse = { λ R. record { rows = rows_of R } };
+
+    ghost inverse_ok = { λ r h i. record { rows = rows_back r.rows h i } };
 }
 
 impl Relation {
@@ -32,6 +40,13 @@ impl Relation {
         Relation {
             rows: [StateSet::empty(); 256],
         }
+    }
+
+    // The relation that some rows hold.
+    pub fn of(rows: [StateSet; 256]) -> Self
+        ensures { result ≡ relation_in rows }
+    {
+        Relation { rows }
     }
 
     // Its rows.
@@ -45,7 +60,7 @@ impl Relation {
     pub fn has(&self, q: u8, r: u8) -> bool
         ensures { result ≡ simulation.related self.now q r }
     {
-        self.rows[usize::from(q)].has(r)
+        is_member(&self.rows[usize::from(q)].words, r)
     }
 
     // Whether some states are related to others, position by position.

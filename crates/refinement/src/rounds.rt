@@ -81,7 +81,7 @@ fn narrow<const R: usize>(
     let mut narrowed = row;
     for r in row.states() {
         if !relation.has_match(rule, others, index.numbers(r)) {
-            narrowed.remove(r);
+            narrowed = narrowed.without(r);
         }
     }
     narrowed
@@ -122,6 +122,7 @@ fn round<const R: usize>(
 fn put_back(changed: StateSet, next: &[StateSet; 256], rows: &mut [StateSet; 256])
     ensures changed { (q : ℕ) → q < 256 → member changed.words q ≡ true → entry_at rows.new q ≡ entry_at next.now q }
     ensures others { (q : ℕ) → q < 256 → member changed.words q ≡ false → entry_at rows.new q ≡ entry_at rows.old q }
+    ensures long { length rows.new ≡ 256 }
 {
     for q in changed.states() {
         rows[usize::from(q)] = next[usize::from(q)];
@@ -142,9 +143,10 @@ pub fn simulate<const R: usize>(
 {
     let mut next = [StateSet::empty(); 256];
     hold_targets(rules, &mut next);
-    start(states, &mut relation.rows);
-    first_round(rules, &next, &mut relation.rows);
-    let mut changed = copy_rows(states, &relation.rows, &mut next);
+    let rows = &mut relation.rows;
+    start(states, rows);
+    first_round(rules, &next, rows);
+    let mut changed = copy_rows(states, rows, &mut next);
     let mut rounds = 0;
     while !changed.is_empty() {
         changed = round(changed, relation, &mut next, rules, rules, index);

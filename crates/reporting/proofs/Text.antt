@@ -38,7 +38,7 @@ pub ruleset by_line = (by_pen, decimal_one, decimal_more, next_left_number, line
 abbrev pub Short : ℕ → Type 0
 Short v = v < 100000
 
-numbers_short : {vs : List ℕ} → All Short vs → length (numbers_in vs) ≤ 6 * length vs
+pub numbers_short : {vs : List ℕ} → All Short vs → length (numbers_in vs) ≤ 6 * length vs
 unfolding numbers_in
 numbers_short none = omega arith
 numbers_short (also {x = v} {xs = vs} h hs) =

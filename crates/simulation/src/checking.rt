@@ -74,7 +74,7 @@ pub fn check(counts: Counts, table: &[u8], tree: &[u8]) -> Checked
 }
 
 // Whether a table accepts a tree, and if not, the subtree to look at; or the first cause of refusal. A rule takes ten bytes at least, so a short
-// table gets short arrays, which are cleared sooner.
+// table gets a short array, which is cleared sooner.
 fn check_tree(table: &[u8], tree: &[u8]) -> Result<Answer, Refusal>
     ensures { finding_of result ≡ spec.finding table.now tree.now }
 {
@@ -85,7 +85,7 @@ fn check_tree(table: &[u8], tree: &[u8]) -> Result<Answer, Refusal>
     }
 }
 
-// The same, with arrays for so many rules.
+// The same, with an array for so many rules.
 fn check_tree_in<const R: usize>(table: &[u8], tree: &[u8]) -> Result<Answer, Refusal>
     requires few { R ≤ 1024 }
     requires room { (k : ℕ) → k ≤ 1024 → 10 * k ≤ length table.now → k ≤ R }
@@ -93,5 +93,5 @@ fn check_tree_in<const R: usize>(table: &[u8], tree: &[u8]) -> Result<Answer, Re
 {
     let mut rows = [Row::EMPTY; R];
     let decoded = decode(table, &mut rows)?;
-    accept_tree::<R>(&decoded, tree)
+    accept_tree(&decoded.view(), tree)
 }

@@ -92,7 +92,7 @@ fn write<W: Write>(out: &mut W, bytes: usize, table: &Table) -> io::Result<()> {
 
 // Writes the table into `space`: its length or the refusal, and a checksum of all of `space` afterwards.
 fn attempt<W: Write>(out: &mut W, table: &Table, space: &mut [u8]) -> io::Result<()> {
-    let written = automaton::write(table, space);
+    let written = automaton::write(&table.view(), space);
     write_written(out, written, add_all(0, space))
 }
 

@@ -5,12 +5,13 @@ use mathlib.Core.Path.{◌≡◌}
 use mathlib.Core.Logic.{◌↔◌}
 use mathlib.Core.List.{List, []}
 use lib.ListN.{length}
+use Rattle.std.specs.Prelude.{min}
 use Rattle.records.specs.Read.{found, map_read}
 use Rattle.automaton.specs.Automaton.{Automaton, WellFormed}
 use Rattle.trees.specs.Postfix.{push_all}
 use Rattle.trees.specs.Walk.{Walk, start, sizes_of, advance_all}
-use Rattle.trees.specs.Inner.{tree_finding}
-use Rattle.trees.specs.Holds.{walk_finding, walk_of, Held, StackRoom, Holding, SameUpTo, HoldableWalk}
+use Rattle.trees.specs.Inner.{Consecutive, Fills, tree_finding}
+use Rattle.trees.specs.Holds.{walk_finding, walk_of, Held, StackRoom, FitsArray, Holding, SameUpTo, HoldableWalk}
 use Rattle.trees.specs.declared.entry.Entry.{Entry}
 use Rattle.trees.proofs.Walking as walking
 use Rattle.trees.proofs.evaluation.Holding as holding
@@ -36,6 +37,11 @@ module _ (A : Automaton) (w : WellFormed A) where
 -- The walks that an array can hold: each of these, whether trees lead to it or not, and no other.
 pub walk_held : (w : Walk) → HoldableWalk w ↔ ((stack : List Entry) × (held : Held) × Holding stack held w)
 walk_held w = (holding.holdable_held w, λ (stack, held, h). holding.holding_holdable h)
+
+-- A stack that fits its array and whose trees fill the nodes is one that a `Walk` can hold, with room for its next step.
+pub held_walks : (stack : List Entry) (held : Held) → length stack ≤ 1024 → FitsArray stack held → Consecutive stack held.height held.nodes
+    → Fills (length stack) stack held.height held.nodes × (min (held.height + 1) 1024 ≤ length stack)
+held_walks stack held places h consecutive = (record { places = places; room = omega (arith, h.few.0, h.room); consecutive = consecutive }, h.room)
 
 module _ {stack stack' : List Entry} {held : Held} {w : Walk} where
   -- Nothing else is held: arrays that hold the same walk are the same up to the height.

@@ -11,13 +11,12 @@ use mathlib.Core.Bool.{Bool, true, false, cond, not, ◌&&◌, ◌||◌}
 use lib.ListN.{length, take, drop, length-append, length-drop, length-map}
 use lib.Dec.{eqb, leb}
 use Rattle.lists.specs.Lists.{All, none, also, Rising, from, keep, any, among}
-use Rattle.lists.proofs.Booleans.{same_bool}
 use Rattle.lists.proofs.Elements.{all_member, all_drop, member_all}
-use Rattle.lists.proofs.Keeping.{keep_in, keep_out, keep_agree}
+use Rattle.lists.proofs.Keeping.{keep_out, keep_agree}
 use Rattle.lists.proofs.Mapping.{map_take, map_drop, map_reverse}
-use Rattle.lists.proofs.Ranges.{from_rising, from_member, member_from}
+use Rattle.lists.proofs.Ranges.{from_rising, member_from}
 use Rattle.lists.proofs.Rising.{rising_keep}
-use Rattle.lists.proofs.Search.{any_agree, among_in, among_out}
+use Rattle.lists.proofs.Search.{among_kept, any_agree}
 use Rattle.records.specs.Bytes.{numbers}
 use Rattle.records.specs.Record.{opened, body_of}
 use Rattle.records.specs.Read.{Read, found, refused, ◌>>=◌, ◌>>◌, check, map_read}
@@ -32,11 +31,6 @@ use Rattle.trees.specs.Holds as holds
 use Rattle.trees.specs.Holds.{walk_finding, read_trees, StatesBelow, FirstBelow}
 use Rattle.trees.proofs.Postfix.{ranked}
 use Rattle.trees.proofs.Subtrees.{length_subtrees, read_node, read_one}
-
-pub among_kept : (test : ℕ → Bool) (n q : ℕ) → q < n → among (keep test (from 0 n)) q ≡ test q
-among_kept test n q h =
-    same_bool (λ e. (keep_out test (from 0 n) (among_out (keep test (from 0 n)) q e)).1)
-    (λ e. among_in (keep_in test (from_member n 0 q (omega arith) (omega arith)) e))
 
 pub kept_below : (test : ℕ → Bool) (n : ℕ) → Rising (keep test (from 0 n)) × All (λ (q : ℕ). q < n) (keep test (from 0 n))
 kept_below test n = (
@@ -206,6 +200,12 @@ module _ (A : Automaton) where
   advance_counts w f e =
       let (r, passed, is) = bind_found (rank_on A.ranks (length w.stack) f) _ e in
       rw (← found_same is) (sym (add-one w.nodes))
+
+  pub advance_grows : (w : Walk) (f : ℕ) {next : Walk} → advance A w f ≡ found next → length next.stack ≤ length w.stack + 1
+  unfolding advance onto
+  advance_grows w f e =
+      let (r, passed, is) = bind_found (rank_on A.ranks (length w.stack) f) _ e in
+      rw (← found_same is) (omega (arith, length-drop r w.stack))
 
   pub start_invariant : Invariant A start
   unfolding start sizes_of FirstBelow

@@ -14,9 +14,8 @@ use Rattle.trees.specs.Walk.{Waiting, Walk, start, advance_all, closing}
 use Rattle.trees.specs.declared.entry.Entry.{Entry}
 use Rattle.trees.specs.declared.evaluation.Subtree.{Subtree}
 
--- What evaluation works on: a well-formed automaton, and the index by symbol of its rules, with places for n, at most 1,024.
-pub record Evaluable (n : ℕ) (A : Automaton) (index : List (List ℕ)) : Type 0 where
-  pub places : n ≤ 1024
+-- What evaluation works on: a well-formed automaton, and the index by symbol of its rules.
+pub record Evaluable (A : Automaton) (index : List (List ℕ)) : Type 0 where
   pub well_formed : WellFormed A
   pub index_is : Indexes (λ (u : Rule). u.symbol) A.rules index
 
@@ -64,11 +63,10 @@ ConsecutiveBy starts (suc e) end = (starts e ≤ end) × ConsecutiveBy starts e 
 abbrev pub Consecutive : List Entry → ℕ → ℕ → Type 0
 Consecutive stack h end = ConsecutiveBy (start_at stack) h end
 
--- What holds of every walk in an array for n trees, at most 1,024: its trees are no more than that, no more than the nodes, and fill the nodes.
+-- What holds of every walk in an array for n trees, at most 1,024: its trees are no more than that, and fill the nodes.
 pub record Fills (n : ℕ) (stack : List Entry) (h nodes : ℕ) : Type 0 where
   pub places : n ≤ 1024
   pub room : h ≤ n
-  pub few : h ≤ nodes
   pub consecutive : Consecutive stack h nodes
 
 -- The start of a node's tree, which is the number of its leftmost leaf: the node itself, if it has no children, and otherwise the start of the first of

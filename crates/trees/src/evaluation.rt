@@ -23,7 +23,7 @@ ghost use Rattle.trees.specs.Inner as inner;
 ghost use Rattle.trees.specs.Inner.{in_order, rule_gives, nodes_finding, tree_finding};
 
 use crate::entry::Entry;
-use automaton::Table;
+use automaton::{RULES, TableRef};
 use indexing::{BySymbol, Index};
 use records::{Kind, Opened, Refusal, body, number2, open};
 use sets::StateSet;
@@ -156,12 +156,12 @@ impl<'a, const N: usize> Walk<'a, N> {
 
 // What trees are evaluated against: a table, and the index of its rules by symbol.
 #[derive(Drop)]
-struct Evaluator<'a, const R: usize> {
-    table: &'a Table<'a, 'a>,
-    index: &'a Index<R>,
+struct Evaluator<'a> {
+    table: &'a TableRef<'a>,
+    index: &'a Index<RULES>,
 }
 
-impl<'a, const R: usize> Model for Evaluator<'a, R> {
+impl<'a> Model for Evaluator<'a> {
     ghost use Rattle.automaton.specs.Automaton.{Automaton};
     ghost use Rattle.trees.specs.Inner.{Evaluable};
 
@@ -169,13 +169,13 @@ impl<'a, const R: usize> Model for Evaluator<'a, R> {
 
     ghost view = { λ t. t.table.now };
 
-    ghost invariant = { λ t. Evaluable R t.table.now t.index.now };
+    ghost invariant = { λ t. Evaluable t.table.now t.index.now };
 }
 
-impl<'a, const R: usize> Evaluator<'a, R> {
+impl<'a> Evaluator<'a> {
     // Of a decoded table and the index of its rules.
-    fn new(table: &'a Table<'a, 'a>, index: &'a Index<R>) -> Evaluator<'a, R>
-        requires { (R ≤ 1024) × Indexes (λ (u : Rule). u.symbol) table.now.rules index.now }
+    fn new(table: &'a TableRef<'a>, index: &'a Index<RULES>) -> Evaluator<'a>
+        requires { Indexes (λ (u : Rule). u.symbol) table.now.rules index.now }
         ensures value { result ≡ table.now }
         ensures well_formed { WellFormed result }
     {
@@ -197,15 +197,14 @@ impl<'a, const R: usize> Evaluator<'a, R> {
         let mut spread = [0; 8];
         for i in numbers {
             let rule = &rules[usize::from(*i)];
-            // They are as many as the trees: cut so, they are not counted again for each rule.
-            let children = &rule.children()[..trees.len()];
+            let children = rule.children_of_rank(trees.len());
             add_if(&mut spread, rule.target(), fits(trees, children));
         }
         gathered(&spread)
     }
 
     // The same. In a walk no set is empty before the first tree without a state, so that sets are tested only from then on; where one is empty, no rule
-    // is looked at.
+    // is looked at. No child, one and two, the most frequent numbers, each get a loop for themselves: there it is known how many they are.
     #[inline(always)]
     fn states_over(&self, numbers: &[u16], trees: &[Entry], first: Option<Subtree>) -> StateSet
         requires { (i : ℕ) → Memᴰ i numbers.now → (i < length self.now.rules)
@@ -218,7 +217,12 @@ impl<'a, const R: usize> Evaluator<'a, R> {
         if first.is_some() && has_empty(trees) {
             return StateSet::empty();
         }
-        self.targets(numbers, trees)
+        match trees.len() {
+            0 => self.targets(numbers, &trees[..0]),
+            1 => self.targets(numbers, &trees[..1]),
+            2 => self.targets(numbers, &trees[..2]),
+            _ => self.targets(numbers, trees),
+        }
     }
 
     // One node: its tree takes the place of its children's on the stack.
@@ -227,7 +231,7 @@ impl<'a, const R: usize> Evaluator<'a, R> {
         symbol: usize,
         walk: Walk<'w, N>,
     ) -> Result<Walk<'w, N>, Refusal>
-        requires { (walk.nodes < 16384) × (min (walk.nodes + 1) 1024 ≤ N) }
+        requires { (walk.nodes < 16384) × (min (length walk.stack + 1) 1024 ≤ N) }
         ensures { reading_of result ≡ advance self.now walk.entry symbol }
     {
         let Walk {
@@ -268,7 +272,7 @@ impl<'a, const R: usize> Evaluator<'a, R> {
         b: &[u8],
         walk: Walk<'w, N>,
     ) -> Result<Walk<'w, N>, Refusal>
-        requires { (walk.nodes + length b.now / 2 ≤ 16384) × (min (walk.nodes + length b.now / 2) 1024 ≤ N) }
+        requires { (walk.nodes + length b.now / 2 ≤ 16384) × (min (length walk.stack + length b.now / 2) 1024 ≤ N) }
         ensures { reading_of result ≡ advance_all self.now walk.entry (bytes.numbers b.now) }
     {
         let mut walk = walk;
@@ -280,6 +284,7 @@ impl<'a, const R: usize> Evaluator<'a, R> {
 
     // The answer for the tree that waits, if there is one alone. The subtree to be named is the first that belongs to no state, or the whole tree.
     fn accept_stack<const N: usize>(&self, walk: &Walk<N>) -> Result<Answer, Refusal>
+        requires { length walk.now.stack ≤ walk.now.nodes }
         ensures { finding_of result ≡ closing self.now walk.now }
     {
         if walk.height != 1 {
@@ -330,9 +335,8 @@ fn is_tree(t: &[u8]) -> bool
     kind == u16::from(Kind::Tree) && end == t.len() && body(t).len() % 2 == 0
 }
 
-// Whether a decoded table accepts a tree, and if not, the subtree to be named; or the tree's first cause of refusal. The index is for R rules.
-pub fn accept_tree<const R: usize>(table: &Table, tree: &[u8]) -> Result<Answer, Refusal>
-    requires { (length table.now.rules ≤ R) × (R ≤ 1024) }
+// Whether a decoded table accepts a tree, and if not, the subtree to be named; or the tree's first cause of refusal.
+pub fn accept_tree(table: &TableRef, tree: &[u8]) -> Result<Answer, Refusal>
     ensures { finding_of result ≡ tree_finding table.now tree.now }
 {
     if !is_tree(tree) {
@@ -342,7 +346,9 @@ pub fn accept_tree<const R: usize>(table: &Table, tree: &[u8]) -> Result<Answer,
     if b.len() / 2 > 16384 {
         return Err(Refusal::TreeAboveLimit);
     }
-    let mut index = Index::<R>::empty();
+    // For the proof: a table's automaton is well-formed.
+    let _ = &table.rules;
+    let mut index = Index::<RULES>::empty();
     index.fill::<BySymbol>(table.rules());
     Evaluator::new(table, &index).accept_nodes(b)
 }

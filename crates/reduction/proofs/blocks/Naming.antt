@@ -48,7 +48,7 @@ found_first test None q h e is = ap (λ (o : Option ℕ). unwrap_or o q) e ∙ f
 found_first test (Some x) q h e is = ap (λ (o : Option ℕ). unwrap_or o q) e ∙ first_searched test q 0 256 q h (omega arith) is
 
 -- As many members stand before a member as there are below it.
-position_kept : (test : ℕ → Bool) (d i n q : ℕ) → q ≡ i + d → d < n → test q ≡ true
+pub position_kept : (test : ℕ → Bool) (d i n q : ℕ) → q ≡ i + d → d < n → test q ≡ true
     → position (keep test (from i n)) q ≡ length (keep test (from i d))
 unfolding position keep from
 position_kept test d i zero q e h is = absurd (omega arith)

@@ -259,7 +259,7 @@ module _ (states finals : List ℕ) (rules : List Rule) (sound : Sound (stage st
   name_position : (q : ℕ) → Memᴰ q left.states → name_in names q ≡ position left.states q
   name_position q m = let (l, h) = states_out states q m in named q l h
 
-  numbered_finals : (set : List ℕ) → Has set (λ (r : ℕ). any (λ (q : ℕ). eqb (name_in names q) r) left.finals)
+  pub numbered_finals : (set : List ℕ) → Has set (λ (r : ℕ). any (λ (q : ℕ). eqb (name_in names q) r) left.finals)
       → states_in (length left.states) set ≡ map (position left.states) left.finals
   unfolding among
   numbered_finals set h =

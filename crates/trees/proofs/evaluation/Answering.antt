@@ -1,7 +1,7 @@
 -- The answer for a tree in bytes, from what its nodes leave on the stack; and what an evaluator holds. For `accept_tree` and the functions under it.
 use Prim.Native.Nat.{ℕ, zero, suc, ◌-◌, ◌/◌, ◌≤◌, ◌<◌}
 use native.Mathlib.Omega.{arith}
-use mathlib.Core.Path.{◌≡◌, refl, ap, ◌∙◌}
+use mathlib.Core.Path.{◌≡◌, refl, sym, ap, ◌∙◌}
 use mathlib.Core.List.{List}
 use mathlib.Core.Bool.{true, false, cond, not}
 use lib.ListN.{length, get_or}
@@ -9,7 +9,7 @@ use borrow.Author.Tests.{le-leb, lt-leb}
 use Rattle.std.specs.Prelude.{Option, Some, None, Result, Ok, Err}
 use Rattle.std.specs.Option.{unwrap_or}
 use Rattle.lists.specs.Lists.{from, keep, any, among}
-use Rattle.lists.proofs.Search.{any_agree}
+use Rattle.lists.proofs.Search.{among_kept, any_agree}
 use Rattle.sets.specs.Set.{member, empty_set, meet_of, same_set}
 use Rattle.sets.specs.Inner.{states_in}
 use Rattle.sets.specs.declared.set.StateSet.{StateSet}
@@ -30,7 +30,7 @@ use Rattle.trees.specs.Inner.{set_at, stack_by, stack_in, walk_in, nodes_finding
 use Rattle.trees.specs.declared.entry.Entry.{Entry}
 use Rattle.trees.specs.declared.evaluation.Subtree.{Subtree}
 use Rattle.trees.proofs.evaluation.Entries.{set_is}
-use Rattle.trees.proofs.Walking.{among_kept, walk_agrees}
+use Rattle.trees.proofs.Walking.{walk_agrees, start_invariant, walked_invariant}
 
 -- The lowest tree's set and the final states have a common state.
 pub met_final : (stack : List Entry) (t : Entry) (finals meet : StateSet) → 0 < length stack → t ≡ get_or stack 0 t
@@ -78,6 +78,10 @@ module _ (A : Automaton) (symbols : List ℕ) (answer : Result Walk Refusal) (s 
   nodes_refused cause e = rw (← s, e)
 
   module _ (walk : Walk) (e : answer ≡ Ok walk) where
+    pub walked_few : length walk.stack ≤ walk.nodes
+    unfolding reading_of map_read
+    walked_few = (walked_invariant A start symbols (start_invariant A) (sym s ∙ ap reading_of e)).0.few
+
     pub nodes_found : (r : Read Finding) → r ≡ closing A walk → r ≡ nodes_finding A symbols
     unfolding nodes_finding reading_of map_read ◌>>=◌
     nodes_found r is = is ∙ rw (← s, e)

@@ -9,6 +9,7 @@ use lib.ListN.{length, length-append}
 use Rattle.std.specs.Prelude.{Option, Some, None}
 use Rattle.lists.specs.Lists.{All, none, also, among}
 use Rattle.lists.proofs.Elements.{all_map}
+use Rattle.lists.proofs.Search.{among_kept}
 use Rattle.sets.specs.Set.{member}
 use Rattle.sets.specs.Inner.{set_of, states_in}
 use Rattle.sets.proofs.StateSets.{Bounded, same_members, states_of_set, length_set_of, bounded_set_of}
@@ -19,7 +20,7 @@ use Rattle.trees.specs.Holds.{Held, StackRoom, Following, FirstBelow, Holding, S
 use Rattle.trees.specs.Subtree.{First, nowhere, first_at, first_of}
 use Rattle.trees.specs.declared.entry.Entry.{Entry}
 use Rattle.trees.specs.declared.evaluation.Subtree.{Subtree}
-use Rattle.trees.proofs.Walking.{among_kept, kept_below, Invariant}
+use Rattle.trees.proofs.Walking.{kept_below, Invariant}
 use Rattle.trees.proofs.evaluation.Entries.{set_length, set_bounded, set_before, start_before, set_last, start_last}
 use Rattle.trees.proofs.evaluation.Stacks.{length_stack, stack_up_to}
 

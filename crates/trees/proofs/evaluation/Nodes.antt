@@ -24,7 +24,7 @@ use Rattle.trees.specs.Inner.{Evaluable, rule_gives, stack_in, walk_in, Consecut
 use Rattle.trees.specs.declared.entry.Entry.{Entry}
 use Rattle.trees.specs.declared.evaluation.Subtree.{Subtree}
 use Rattle.trees.proofs.Postfix.{rank_unknown, rank_unbalanced, rank_above_limit, rank_found}
-use Rattle.trees.proofs.Walking.{advance_counts}
+use Rattle.trees.proofs.Walking.{advance_counts, advance_grows}
 use Rattle.trees.proofs.evaluation.Stacks.{start_on, start_taken, start_low, consecutive_below, length_stack, stack_below, stack_states, stack_sizes}
 use Rattle.trees.proofs.evaluation.Stacks.{no_states, node_joined, put_stack, put_consecutive}
 
@@ -50,11 +50,16 @@ pub nodes_in : (stack : List Entry) (h nodes : ℕ) (first : Option Subtree) (w 
 unfolding walk_in
 nodes_in stack h nodes first w is = ap (λ (v : Walk). v.nodes) is
 
+-- The height of a stack in an array.
+pub tall_in : (stack : List Entry) (h nodes : ℕ) (first : Option Subtree) (w : Walk) → walk_in stack h nodes first ≡ w → h ≡ length w.stack
+unfolding walk_in
+tall_in stack h nodes first w is = sym (length_stack stack h nodes) ∙ ap (λ (v : Walk). length v.stack) is
+
 pub advance_unknown : (A : Automaton) (w : Walk) (f : ℕ) → length A.ranks ≤ f → refused 9 ≡ advance A w f
 unfolding advance ◌>>=◌
 advance_unknown A w f h = rw (rank_unknown A.ranks (length w.stack) f h)
 
-module _ {n : ℕ} {A : Automaton} {index : List (List ℕ)} (v : Evaluable n A index) (stack : List Entry) (height nodes : ℕ) (first : Option Subtree) (f : ℕ) where
+module _ {A : Automaton} {index : List (List ℕ)} (v : Evaluable A index) (stack : List Entry) (height nodes : ℕ) (first : Option Subtree) (f : ℕ) where
   module _ (known : f < length A.ranks) where
     pub advance_unbalanced : height < get_or A.ranks f 0 → refused 10 ≡ advance A (walk_in stack height nodes first) f
     unfolding advance walk_in ◌>>=◌
@@ -116,6 +121,13 @@ number_more nodes begun b rest p rest' left two splits =
     let long = simp length-append at (ap length splits) in
     (omega arith, omega arith)
 
+-- A number more off the rest of a body, for a stack that grows by at most one tree.
+pub room_more : (height begun next : ℕ) (b rest p rest' : List ℕ) → 2 * height + length rest ≤ 2 * begun + length b → length p ≡ 2 → rest ≡ p ++ rest'
+    → (height + 1 ≤ begun + length b / 2) × (next ≤ height + 1 → 2 * next + length rest' ≤ 2 * begun + length b)
+room_more height begun next b rest p rest' left two splits =
+    let long = simp length-append at (ap length splits) in
+    (omega arith, λ more. omega arith)
+
 -- The nodes in the rest of a body are still to be walked.
 module _ (A : Automaton) (begun : Walk) (b rest : List ℕ) (walk : Walk)
     (left : advance_all A begun (numbers b) ≡ advance_all A walk (numbers rest)) where
@@ -137,6 +149,10 @@ module _ (A : Automaton) (begun : Walk) (b rest : List ℕ) (walk : Walk)
       pub walk_counts : next.nodes ≡ walk.nodes + 1
       unfolding reading_of map_read
       walk_counts = advance_counts A walk f (sym s ∙ ap reading_of e)
+
+      pub walk_grows : length next.stack ≤ length walk.stack + 1
+      unfolding reading_of map_read
+      walk_grows = advance_grows A walk f (sym s ∙ ap reading_of e)
 
       pub walk_next : advance_all A begun (numbers b) ≡ advance_all A next (numbers rest')
       unfolding reading_of map_read ◌>>=◌

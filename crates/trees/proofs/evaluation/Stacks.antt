@@ -15,7 +15,7 @@ use Rattle.lists.specs.Lists.{All, also, from, any, among}
 use Rattle.lists.proofs.Booleans.{and_true_out}
 use Rattle.lists.proofs.Elements.{all_map, all_member}
 use Rattle.lists.proofs.Ranges.{from_step}
-use Rattle.lists.proofs.Search.{any_out, any_keep, any_same}
+use Rattle.lists.proofs.Search.{among_kept, any_out, any_keep, any_same}
 use Rattle.sets.specs.Set.{member, empty_set, same_set}
 use Rattle.sets.specs.Entries.{entry_at}
 use Rattle.sets.specs.Inner.{states_in, Has}
@@ -30,7 +30,7 @@ use Rattle.trees.specs.Walk.{Waiting, have_in_order, leads_to, sizes_of, joined,
 use Rattle.trees.specs.Inner.{Evaluable, set_at, start_at, in_order, rule_gives, stack_by, stack_in, ConsecutiveBy, Consecutive, start_of}
 use Rattle.trees.specs.Holds.{SameUpTo}
 use Rattle.trees.specs.declared.entry.Entry.{Entry}
-use Rattle.trees.proofs.Walking.{among_kept, is_none_kept}
+use Rattle.trees.proofs.Walking.{is_none_kept}
 use Rattle.trees.proofs.evaluation.Entries.{set_behind, set_put, start_put, set_below, start_below}
 
 from_last : (e r : ℕ) → from e (suc r) ≡ from e r ++ ((r + e) ∷ [])
@@ -179,7 +179,7 @@ any_numbered test rules (u ∷ us) i l is =
     rw (here, any_numbered test rules us (suc i) (omega arith) (rw add-one at rest)) refl
 
 -- The states of a node's tree: the targets of the rules of its symbol whose children are in order among the topmost sets.
-module _ {n : ℕ} {A : Automaton} {index : List (List ℕ)} (v : Evaluable n A index) where
+module _ {A : Automaton} {index : List (List ℕ)} (v : Evaluable A index) where
   rule_at_lem : (i : ℕ) → i < length A.rules → WellFormedRule A (rule_at A.rules i)
   rule_at_lem i h = all_member v.well_formed.rules (rule_in_lem A.rules i h)
 
@@ -278,7 +278,7 @@ module _ (stack : List Entry) (e : ℕ) (t : Entry) (place : e < length stack) w
       )
 
 -- Every stack of trees has starts: each tree starts after those under it. So the equation of a step is about every stack whose sizes add up to the
--- number of nodes, if it has no more trees than nodes.
+-- number of nodes.
 unfoldable pub starts_of : List Waiting → List ℕ
 starts_of [] = []
 starts_of (w ∷ ws) = starts_of ws ++ (sizes_of ws ∷ [])

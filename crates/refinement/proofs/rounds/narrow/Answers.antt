@@ -17,7 +17,7 @@ has_match-requires g c =
 
 pub loop-r-preserved-then-not-has_match : goal.loop-r-preserved-then-not-has_match
 loop-r-preserved-then-not-has_match g c =
-    rw c.remove.ensures (narrowed_out c.loop-r.invariant c.in-Some.r (sym (rw c.numbers.ensures at c.if-not-has_match.ensures)))
+    rw c.without-narrowed.ensures (narrowed_out c.loop-r.invariant c.in-Some.r (sym (rw c.numbers.ensures at c.if-not-has_match.ensures)))
 
 pub loop-r-preserved : goal.loop-r-preserved
 loop-r-preserved g c = narrowed_stays c.loop-r.invariant c.in-Some.r (sym (rw c.numbers.ensures at c.if-not-has_match.ensures))

@@ -17,6 +17,14 @@ use Rattle.refinement.proofs.rounds.simulate.Goals as goal
 pub hold_targets-requires : goal.hold_targets-requires
 hold_targets-requires g c f h = entry_repeated 256 f c.empty-next.result h ∙ c.empty-next.ensures
 
+-- The rows stay 256.
+
+pub invariant_of-relation : goal.invariant_of-relation
+invariant_of-relation g c = c.first_round.array_long
+
+pub invariant_of-relation-in-loop-next : goal.invariant_of-relation-in-loop-next
+invariant_of-relation-in-loop-next g c = c.put_back.ensures.long
+
 -- The states that rules name.
 module _ {rules : List Rule} (set : List ℕ) (s : Simulable rules (states_in 256 set)) (u : Rule) (m : Memᴰ u rules) where
   target_known : (u.target < 256) × (member set u.target ≡ true)

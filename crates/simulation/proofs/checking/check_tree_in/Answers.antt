@@ -2,11 +2,10 @@
 use Rattle.std.proofs.Common.{◌∙◌, sym}
 use Rattle.std.proofs.lemmas.List.{length-replicate}
 use Rattle.std.proofs.lemmas.Result.{err_from_is_err_and}
-use Rattle.automaton.proofs.Theorems.{judged_well_formed}
 use Rattle.records.specs.Answers.{reading_of}
 use Rattle.records.specs.Read.{map_read}
 use Rattle.trees.specs.Answers.{finding_of}
-use Rattle.simulation.proofs.Acceptance.{table_refused, few_rules, table_found}
+use Rattle.simulation.proofs.Acceptance.{table_refused, table_found}
 use Rattle.simulation.proofs.checking.check_tree_in.Goals as goal
 
 pub decode-requires : goal.decode-requires
@@ -18,12 +17,6 @@ returns-in_err-decoded g c =
     let p = err_from_is_err_and c.from_residual.result c.from_residual.ensures.1 in
     rw (p.1, p.2) (table_refused _ _ _ c.in_err-decoded.ensures)
 
-pub accept_tree-requires : goal.accept_tree-requires
-unfolding reading_of
-accept_tree-requires g c =
-    let e = sym c.in_ok-decoded.ensures in
-    (c.requires.room _ (judged_well_formed _ _ e).count (few_rules _ _ e (λ i. (c.type_inv.table i).fits)), c.requires.few)
-
 pub returns : goal.returns
 unfolding reading_of
-returns g c = c.accept_tree.ensures ∙ table_found _ _ (sym c.in_ok-decoded.ensures) _
+returns g c = rw c.view.ensures at c.accept_tree.ensures ∙ table_found _ _ (sym c.in_ok-decoded.ensures) _

@@ -39,7 +39,9 @@ below-states-requires c = states_few _ c.size.ensures.well_formed _ c.size.ensur
 
 pub fill-requires : goal.fill-requires
 fill-requires c =
-    (omega arith, (omega (arith, rules_long c.rules-rules.result.now, ap length c.rules-rules.ensures, c.size.ensures.well_formed.count), omega arith))
+    let few : length c.rules-rules.result.now ≤ 1024 =
+    omega (arith, rules_long c.rules-rules.result.now, ap length c.rules-rules.ensures, c.size.ensures.well_formed.count) in
+    (omega arith, (few, few))
 
 pub simulate-requires : goal.simulate-requires
 simulate-requires c = (

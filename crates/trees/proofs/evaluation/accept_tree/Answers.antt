@@ -8,15 +8,15 @@ use Rattle.trees.proofs.evaluation.accept_tree.Goals as goal
 
 pub returns-then-not-is_tree : goal.returns-then-not-is_tree
 unfolding finding_of reading_of map_read
-returns-then-not-is_tree g c = sym (not_a_tree_refused _ _ (sym c.if-not-is_tree.ensures))
+returns-then-not-is_tree c = sym (not_a_tree_refused _ _ (sym c.if-not-is_tree.ensures))
 
 pub returns-then-b-gt16384 : goal.returns-then-b-gt16384
 unfolding finding_of reading_of map_read
-returns-then-b-gt16384 g c =
+returns-then-b-gt16384 c =
     sym (many_nodes_refused _ _ (sym c.if-not-is_tree.ensures) _ c.body-b.ensures c.if-b-gt16384.true)
 
 pub returns : goal.returns
-returns g c =
+returns c =
     rw (← c.new.ensures.value)
     (c.accept_nodes.ensures
     ∙ sym (tree_of_nodes c.new.result _ (sym c.if-not-is_tree.ensures) _ c.body-b.ensures c.new.ensures.well_formed c.if-b-gt16384.false))

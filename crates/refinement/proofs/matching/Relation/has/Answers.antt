@@ -8,6 +8,6 @@ use Rattle.refinement.proofs.matching.Relation.has.Goals as goal
 
 pub returns : goal.returns
 returns c =
-    c.has.ensures ∙ ap (λ (row : List ℕ). member row c.args.r) (entry_read c.self.inside.rows _ _ (omega arith))
+    c.is_member.ensures ∙ ap (λ (row : List ℕ). member row c.args.r) (entry_read c.self.inside.rows _ _ (omega arith))
     ∙ rw c.from.ensures (sym (related_in c.self.inside.rows c.args.q c.args.r (omega arith) (omega arith)))
     ∙ ap (λ (R : Relation). related R c.args.q c.args.r) c.self.view_is

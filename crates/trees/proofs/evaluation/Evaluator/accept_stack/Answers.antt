@@ -6,6 +6,7 @@ use Rattle.records.specs.Read.{map_read}
 use Rattle.trees.specs.Answers.{finding_of, named_by}
 use Rattle.trees.specs.declared.entry.Entry.{Entry}
 use Rattle.trees.proofs.evaluation.Answering.{met_final, not_one_refused, one_answered, named_pointed}
+use Rattle.trees.proofs.evaluation.Nodes.{nodes_in, tall_in}
 use Rattle.trees.proofs.evaluation.Evaluator.accept_stack.Goals as goal
 
 pub returns-then-walk-ne1 : goal.returns-then-walk-ne1
@@ -24,6 +25,12 @@ returns-then-not-is_empty g c =
     rw (← c.self.view_is, ← c.walk.view_is)
     (sym (one_answered _ _ _ _ _ _ c.finals.ensures c.if-walk-ne1.false
     ∙ rw (← met, ← c.if-not-is_empty.ensures) refl))
+
+pub overflow_sub-whole : goal.overflow_sub-whole
+overflow_sub-whole g c =
+    let nodes = nodes_in _ _ _ _ _ c.walk.view_is in
+    let tall = tall_in _ _ _ _ _ c.walk.view_is in
+    omega (arith, c.requires, c.if-walk-ne1.false)
 
 pub returns : goal.returns
 unfolding finding_of named_by reading_of map_read

@@ -7,7 +7,7 @@ use Rattle.records.specs.Answers.{reading_of}
 use Rattle.records.specs.Read.{map_read}
 use Rattle.records.specs.declared.refusal.Refusal.{Refusal}
 use Rattle.trees.specs.declared.entry.Entry.{Entry}
-use Rattle.trees.proofs.evaluation.Nodes.{node_start_low, node_consecutive, nodes_in, advance_unknown, advance_unbalanced, advance_above_limit, advance_node}
+use Rattle.trees.proofs.evaluation.Nodes.{node_start_low, node_consecutive, nodes_in, tall_in, advance_unknown, advance_unbalanced, advance_above_limit, advance_node}
 use Rattle.trees.proofs.evaluation.Stacks.{rules_ranked}
 use Rattle.trees.proofs.evaluation.Evaluator.step.Goals as goal
 
@@ -44,9 +44,6 @@ returns-then-e-ge1024 g c =
     let place = rw c.in_ok-e.ensures.ok_part at c.checked_sub.ensures in
     rw (← c.self.view_is, ← c.walk.view_is) (advance_above_limit c.self.invariant _ _ _ _ _ known (omega arith) (omega arith))
 
-pub numbers-numbers-requires : goal.numbers-numbers-requires
-numbers-numbers-requires g c = omega (arith, c.self.invariant.places)
-
 pub shared_whole_as_slice-trees : goal.shared_whole_as_slice-trees
 shared_whole_as_slice-trees g c = omega (arith, c.walk.invariant.places)
 
@@ -55,28 +52,26 @@ states_over-states-requires g c =
     let found : c.args.symbol < length c.ranks.result.now = (rw c.in_ok-rank.ensures.ok_part at c.get.ensures.lookup.3).0 in
     let rank = rw c.ranks.ensures at (c.from.ensures ∙ (rw c.in_ok-rank.ensures.ok_part at c.get.ensures.lookup.4) (omega arith) 0) in
     let known : c.args.symbol < length c.self.inside.table.now.ranks = rw (← c.ranks.ensures) found in
-    let place = rw c.in_ok-e.ensures.ok_part at c.checked_sub.ensures in (
-      omega arith,
-      rw (← c.self.view_is, c.numbers-numbers.ensures) (λ i m.
-          let (low, arity) = rules_ranked c.self.invariant _ known i m in
-          (low, omega (arith, length-take {A = Entry}, length-drop {A = Entry}))),
-    )
+    let place = rw c.in_ok-e.ensures.ok_part at c.checked_sub.ensures in
+    rw (← c.self.view_is, c.numbers-numbers.ensures) (λ i m.
+    let (low, arity) = rules_ranked c.self.invariant _ known i m in
+    (low, omega (arith, length-take {A = Entry}, length-drop {A = Entry})))
 
 pub start_of-start-requires : goal.start_of-start-requires
 start_of-start-requires g c = let nodes = nodes_in _ _ _ _ _ c.walk.view_is in omega (arith, c.requires.0)
 
 pub listed : goal.listed
 listed g c =
-    let nodes = nodes_in _ _ _ _ _ c.walk.view_is in
+    let tall = tall_in _ _ _ _ _ c.walk.view_is in
     let place = rw c.in_ok-e.ensures.ok_part at c.checked_sub.ensures in
-    let low : c.in_ok-e.e < g.row.N = omega (arith, c.walk.invariant.few, c.requires.1) in
+    let low : c.in_ok-e.e < g.row.N = omega (arith, c.requires.1) in
     omega arith
 
 pub bounds-stack-e : goal.bounds-stack-e
 bounds-stack-e g c =
-    let nodes = nodes_in _ _ _ _ _ c.walk.view_is in
+    let tall = tall_in _ _ _ _ _ c.walk.view_is in
     let place = rw c.in_ok-e.ensures.ok_part at c.checked_sub.ensures in
-    omega (arith, c.walk.invariant.few, c.requires.1)
+    omega (arith, c.requires.1)
 
 pub noted-requires : goal.noted-requires
 noted-requires g c =
@@ -94,13 +89,13 @@ overflow_add-result-2 g c = let nodes = nodes_in _ _ _ _ _ c.walk.view_is in ome
 pub invariant_of-result : goal.invariant_of-result
 invariant_of-result g c =
     let nodes = nodes_in _ _ _ _ _ c.walk.view_is in
+    let tall = tall_in _ _ _ _ _ c.walk.view_is in
     let place = rw c.in_ok-e.ensures.ok_part at c.checked_sub.ensures in
-    let low : c.in_ok-e.e < g.row.N = omega (arith, c.walk.invariant.few, c.requires.1) in
+    let low : c.in_ok-e.e < g.row.N = omega (arith, c.requires.1) in
     let room : c.walk.inside.height ≤ length c.walk.inside.stack.now = omega (arith, c.walk.invariant.room) in
     record {
       places = c.walk.invariant.places;
       room = omega arith;
-      few = omega (arith, c.walk.invariant.few);
       consecutive = rw place.1
           (node_consecutive c.walk.inside.stack.now _ _ _ place.0 room c.walk.invariant.consecutive _ (omega arith) (rw place.1 at c.start_of-start.ensures));
     }
@@ -112,8 +107,9 @@ returns g c =
     let found : c.args.symbol < length c.ranks.result.now = (rw c.in_ok-rank.ensures.ok_part at c.get.ensures.lookup.3).0 in
     let rank = rw c.ranks.ensures at (c.from.ensures ∙ (rw c.in_ok-rank.ensures.ok_part at c.get.ensures.lookup.4) (omega arith) 0) in
     let known : c.args.symbol < length c.self.inside.table.now.ranks = rw (← c.ranks.ensures) found in
+    let tall = tall_in _ _ _ _ _ c.walk.view_is in
     let place = rw c.in_ok-e.ensures.ok_part at c.checked_sub.ensures in
-    let low : c.in_ok-e.e < g.row.N = omega (arith, c.walk.invariant.few, c.requires.1) in
+    let low : c.in_ok-e.e < g.row.N = omega (arith, c.requires.1) in
     let room : c.walk.inside.height ≤ length c.walk.inside.stack.now = omega (arith, c.walk.invariant.room) in
     rw (← c.self.view_is, ← c.walk.view_is, place.1, rank)
     (advance_node c.self.invariant _ _ _ _ _ known (omega arith) (omega arith) c.walk.invariant.consecutive room (omega arith) _

@@ -1,4 +1,4 @@
-use Rattle.std.proofs.Common.{ℕ, ◌<◌, ◌≤◌, ◌≡◌, List, length, length-take, get_or, arith, ap, ◌∙◌}
+use Rattle.std.proofs.Common.{ℕ, ◌<◌, ◌≡◌, List, length, get_or, arith, ap, ◌∙◌}
 use Rattle.std.proofs.lemmas.List.{length-map}
 use lib.Seq.{take_all}
 use Rattle.lists.specs.Lists.{any}
@@ -14,10 +14,10 @@ use Rattle.trees.proofs.evaluation.Evaluator.targets.Goals as goal
 
 pub loop-i-init : goal.loop-i-init
 unfolding any empty_set words gathered
-loop-i-init g c = λ q low. member_empty q low
+loop-i-init c = λ q low. member_empty q low
 
 pub bounds-rules-from : goal.bounds-rules-from
-bounds-rules-from g c =
+bounds-rules-from c =
     let ranked = (rw (← c.self.view_is) at c.requires) _ (at_member c.args.numbers.now c.loop-i.i-index c.loop-i-test.true) in
     rw c.from.ensures (omega (arith, ranked.0, ap length c.rules-rules.ensures, length-map c.rules-rules.result.now rule_of))
 
@@ -28,30 +28,30 @@ row_rule A rows i k row are same low is =
     let within : i < length rows = omega (arith, ap length are, length-map rows rule_of) in
     rule_is rows i row within is ∙ rw (are, same)
 
-pub slice_bounds-children-end : goal.slice_bounds-children-end
-slice_bounds-children-end g c =
+pub children_of_rank-children-requires : goal.children_of_rank-children-requires
+children_of_rank-children-requires c =
     let ranked = c.requires _ (at_member c.args.numbers.now c.loop-i.i-index c.loop-i-test.true) in
     let rule = row_rule c.args.self.now _ _ _ _ (c.rules-rules.ensures ∙ ap (λ (A : Automaton). A.rules) c.self.view_is) c.from.ensures ranked.0 c.index-rules-from.is in
-    rw c.children.ensures (omega (arith, length-take {A = ℕ}, ap (λ (u : Rule). length u.children) rule, ranked.1))
+    omega (arith, ap (λ (u : Rule). length u.children) rule, ranked.1)
 
 pub fits-requires : goal.fits-requires
-fits-requires g c = omega (arith, length-take {A = ℕ})
-
-pub loop-i-preserved : goal.loop-i-preserved
-loop-i-preserved g c =
+fits-requires c =
     let ranked = c.requires _ (at_member c.args.numbers.now c.loop-i.i-index c.loop-i-test.true) in
     let rule = row_rule c.args.self.now _ _ _ _ (c.rules-rules.ensures ∙ ap (λ (A : Automaton). A.rules) c.self.view_is) c.from.ensures ranked.0 c.index-rules-from.is in
-    let all : length (rule_of c.index-rules-from.result).children ≤ length c.args.trees.now =
-    omega (arith, ap (λ (u : Rule). length u.children) rule, ranked.1) in
+    rw c.children_of_rank-children.ensures (omega (arith, ap (λ (u : Rule). length u.children) rule, ranked.1))
+
+pub loop-i-preserved : goal.loop-i-preserved
+loop-i-preserved c =
+    let ranked = c.requires _ (at_member c.args.numbers.now c.loop-i.i-index c.loop-i-test.true) in
+    let rule = row_rule c.args.self.now _ _ _ _ (c.rules-rules.ensures ∙ ap (λ (A : Automaton). A.rules) c.self.view_is) c.from.ensures ranked.0 c.index-rules-from.is in
     rw (
       c.add_if.ensures,
       c.target.ensures,
       c.fits.ensures,
-      c.children.ensures,
-      take_all (length c.args.trees.now) (rule_of c.index-rules-from.result).children all,
+      c.children_of_rank-children.ensures,
     )
     (rw (← rule) at (targets_one_more c.args.self.now.rules c.args.numbers.now c.args.trees.now _ c.loop-i.i-index c.loop-i-test.true c.loop-i.invariant))
 
 pub returns : goal.returns
-returns g c =
+returns c =
     rw (c.gathered.ensures, ← take_all c.loop-i.i-index c.args.numbers.now c.loop-i-test.false) c.loop-i.invariant

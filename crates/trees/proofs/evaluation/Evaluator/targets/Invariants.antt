@@ -6,4 +6,4 @@ use Rattle.trees.specs.Inner.{rule_gives, gathered}
 use Rattle.trees.proofs.evaluation.Evaluator.targets.Given as goal
 
 abbrev pub invariant-loop-i : goal.invariant-loop-i
-invariant-loop-i g l = Has (gathered l.spread) (λ (q : ℕ). any (rule_gives l.self.rules l.trees q) (take l.i-index l.numbers))
+invariant-loop-i l = Has (gathered l.spread) (λ (q : ℕ). any (rule_gives l.self.rules l.trees q) (take l.i-index l.numbers))

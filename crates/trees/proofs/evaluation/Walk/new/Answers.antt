@@ -6,7 +6,7 @@ use Rattle.trees.proofs.evaluation.Walk.new.Goals as goal
 
 pub invariant_of-result : goal.invariant_of-result
 unfolding ConsecutiveBy
-invariant_of-result g c = record { places = c.requires; room = omega arith; few = omega arith; consecutive = refl }
+invariant_of-result g c = record { places = c.requires; room = omega arith; consecutive = refl }
 
 pub returns : goal.returns
 unfolding start walk_in stack_by first_of
