@@ -204,7 +204,7 @@ impl<'a> Evaluator<'a> {
     }
 
     // The same. In a walk no set is empty before the first tree without a state, so that sets are tested only from then on; where one is empty, no rule
-    // is looked at. No child, one and two, the most frequent numbers, each get a loop for themselves: there it is known how many they are.
+    // is looked at. One child and two, the most frequent numbers, each get a loop for themselves: there it is known how many they are.
     #[inline(always)]
     fn states_over(&self, numbers: &[u16], trees: &[Entry], first: Option<Subtree>) -> StateSet
         requires { (i : ℕ) → Memᴰ i numbers.now → (i < length self.now.rules)
@@ -218,7 +218,6 @@ impl<'a> Evaluator<'a> {
             return StateSet::empty();
         }
         match trees.len() {
-            0 => self.targets(numbers, &trees[..0]),
             1 => self.targets(numbers, &trees[..1]),
             2 => self.targets(numbers, &trees[..2]),
             _ => self.targets(numbers, trees),
