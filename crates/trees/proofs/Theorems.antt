@@ -5,14 +5,15 @@ use mathlib.Core.Path.{◌≡◌}
 use mathlib.Core.Logic.{◌↔◌}
 use mathlib.Core.List.{List, []}
 use lib.ListN.{length}
-use Rattle.std.specs.Prelude.{min}
+use Rattle.std.specs.Prelude.{min, Option}
 use Rattle.records.specs.Read.{found, map_read}
 use Rattle.automaton.specs.Automaton.{Automaton, WellFormed}
 use Rattle.trees.specs.Postfix.{push_all}
-use Rattle.trees.specs.Walk.{Walk, start, sizes_of, advance_all}
-use Rattle.trees.specs.Inner.{Consecutive, Fills, tree_finding}
+use Rattle.trees.specs.Walk.{Walk, start, sizes_of, advance, advance_all}
+use Rattle.trees.specs.Inner.{walk_in, Consecutive, FillsNodes, Fills, tree_finding}
 use Rattle.trees.specs.Holds.{walk_finding, walk_of, Held, StackRoom, FitsArray, Holding, SameUpTo, HoldableWalk}
 use Rattle.trees.specs.declared.entry.Entry.{Entry}
+use Rattle.trees.specs.declared.evaluation.Subtree.{Subtree}
 use Rattle.trees.proofs.Walking as walking
 use Rattle.trees.proofs.evaluation.Holding as holding
 
@@ -40,8 +41,21 @@ walk_held w = (holding.holdable_held w, λ (stack, held, h). holding.holding_hol
 
 -- A stack that fits its array and whose trees fill the nodes is one that a `Walk` can hold, with room for its next step.
 pub held_walks : (stack : List Entry) (held : Held) → length stack ≤ 1024 → FitsArray stack held → Consecutive stack held.height held.nodes
-    → Fills (length stack) stack held.height held.nodes × (min (held.height + 1) 1024 ≤ length stack)
+    → FillsNodes (length stack) stack held.height held.nodes × (min (held.height + 1) 1024 ≤ length stack)
 held_walks stack held places h consecutive = (record { places = places; room = omega (arith, h.few.0, h.room); consecutive = consecutive }, h.room)
+
+module _ {n h nodes : ℕ} {stack : List Entry} (first : Option Subtree) where
+  -- Where `Fills` holds of the array of a walk, the walk has no more trees than nodes, as `start` has.
+  pub fills_few : Fills n stack h nodes → length (walk_in stack h nodes first).stack ≤ nodes
+  fills_few = holding.fills_few first
+
+  -- From such a walk a step leads only to walks of whose array `Fills` holds, and so do steps over any symbols.
+  module _ (fits : FillsNodes n stack h nodes) (A : Automaton) (begun : Walk) (few : length begun.stack ≤ begun.nodes) where
+    pub step_fills : (symbol : ℕ) → advance A begun symbol ≡ found (walk_in stack h nodes first) → Fills n stack h nodes
+    step_fills = holding.step_fills first fits A begun few
+
+    pub walked_fills : (symbols : List ℕ) → advance_all A begun symbols ≡ found (walk_in stack h nodes first) → Fills n stack h nodes
+    walked_fills = holding.walked_fills first fits A begun few
 
 module _ {stack stack' : List Entry} {held : Held} {w : Walk} where
   -- Nothing else is held: arrays that hold the same walk are the same up to the height.

@@ -207,6 +207,17 @@ module _ (A : Automaton) where
       let (r, passed, is) = bind_found (rank_on A.ranks (length w.stack) f) _ e in
       rw (← found_same is) (omega (arith, length-drop r w.stack))
 
+  -- Trees that are no more than the nodes stay so.
+  pub advance_few : (w : Walk) (f : ℕ) {next : Walk} → length w.stack ≤ w.nodes → advance A w f ≡ found next → length next.stack ≤ next.nodes
+  advance_few w f few e = omega (arith, advance_counts w f e, advance_grows w f e)
+
+  pub advance_all_few : (w : Walk) (fs : List ℕ) {last : Walk} → length w.stack ≤ w.nodes → advance_all A w fs ≡ found last → length last.stack ≤ last.nodes
+  unfolding advance_all
+  advance_all_few w [] few e = rw (← found_same e) few
+  advance_all_few w (f ∷ fs) few e =
+      let (next, one, more) = bind_found (advance A w f) _ e in
+      advance_all_few next fs (advance_few w f few one) more
+
   pub start_invariant : Invariant A start
   unfolding start sizes_of FirstBelow
   start_invariant = record { states = none; sizes = refl; few = omega arith; waiting = omega arith; first = tt }

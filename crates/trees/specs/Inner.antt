@@ -1,5 +1,5 @@
 -- What the contracts of evaluation cite; no call for everybody cites any of it. Places that a stack does not have, where `set_at` and `start_at` would
--- give their defaults, and differences below 0, where `-` would give 0, are ruled out by what holds of every walk (`Fills`).
+-- give their defaults, and differences below 0, where `-` would give 0, are ruled out by what holds of every walk (`FillsNodes`).
 use Rattle.std.specs.Prelude.{ℕ, zero, suc, ◌-◌, ◌*◌, ◌≤◌, ◌≡◌, List, [], ◌∷◌, Bool, true, ◌&&◌, map, drop, get_or, eqb, Option}
 use Rattle.sets.specs.Set.{member, words}
 use Rattle.sets.specs.Entries.{entry_at}
@@ -64,9 +64,16 @@ abbrev pub Consecutive : List Entry → ℕ → ℕ → Type 0
 Consecutive stack h end = ConsecutiveBy (start_at stack) h end
 
 -- What holds of every walk in an array for n trees, at most 1,024: its trees are no more than that, and fill the nodes.
+pub record FillsNodes (n : ℕ) (stack : List Entry) (h nodes : ℕ) : Type 0 where
+  pub places : n ≤ 1024
+  pub room : h ≤ n
+  pub consecutive : Consecutive stack h nodes
+
+-- What holds of each of these that begins with no more trees than nodes, as a walk over a tree does: they stay no more than the nodes.
 pub record Fills (n : ℕ) (stack : List Entry) (h nodes : ℕ) : Type 0 where
   pub places : n ≤ 1024
   pub room : h ≤ n
+  pub few : h ≤ nodes
   pub consecutive : Consecutive stack h nodes
 
 -- The start of a node's tree, which is the number of its leftmost leaf: the node itself, if it has no children, and otherwise the start of the first of

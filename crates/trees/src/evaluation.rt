@@ -130,13 +130,13 @@ struct Walk<'a, const N: usize> {
 
 impl<'a, const N: usize> Model for Walk<'a, N> {
     ghost use Rattle.trees.specs.Walk as spec;
-    ghost use Rattle.trees.specs.Inner.{walk_in, Fills};
+    ghost use Rattle.trees.specs.Inner.{walk_in, FillsNodes};
 
     ghost Value = { spec.Walk };
 
     ghost view = { λ w. walk_in w.stack.now w.height w.nodes w.first };
 
-    ghost invariant = { λ w. Fills N w.stack.now w.height w.nodes };
+    ghost invariant = { λ w. FillsNodes N w.stack.now w.height w.nodes };
 }
 
 impl<'a, const N: usize> Walk<'a, N> {

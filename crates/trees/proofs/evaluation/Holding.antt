@@ -1,5 +1,6 @@
 -- What an array holds between nodes is a walk and nothing else: every walk that fits is held by some array, arrays that are the same up to the height
--- hold the same walk, and those that hold the same walk are the same there. From Stacks and the laws of state sets; for the theorems.
+-- hold the same walk, and those that hold the same walk are the same there. What `Fills` says goes on from step to step. From Stacks and the laws of
+-- state sets; for the theorems.
 use Prim.Native.Nat.{ℕ, zero, suc, ◌+◌, ◌-◌, ◌^◌, ◌≤◌, ◌<◌}
 use native.Mathlib.Decide.{dec_lt}
 use native.Mathlib.Omega.{arith}
@@ -13,14 +14,15 @@ use Rattle.lists.proofs.Search.{among_kept}
 use Rattle.sets.specs.Set.{member}
 use Rattle.sets.specs.Inner.{set_of, states_in}
 use Rattle.sets.proofs.StateSets.{Bounded, same_members, states_of_set, length_set_of, bounded_set_of}
+use Rattle.records.specs.Read.{found}
 use Rattle.automaton.specs.Automaton.{Automaton}
-use Rattle.trees.specs.Walk.{Waiting, Walk, sizes_of}
-use Rattle.trees.specs.Inner.{set_at, start_at, stack_by, stack_in, walk_in}
+use Rattle.trees.specs.Walk.{Waiting, Walk, sizes_of, advance, advance_all}
+use Rattle.trees.specs.Inner.{set_at, start_at, stack_by, stack_in, walk_in, FillsNodes, Fills}
 use Rattle.trees.specs.Holds.{Held, StackRoom, Following, FirstBelow, Holding, SameUpTo, StatesBelow, HoldableWalk}
 use Rattle.trees.specs.Subtree.{First, nowhere, first_at, first_of}
 use Rattle.trees.specs.declared.entry.Entry.{Entry}
 use Rattle.trees.specs.declared.evaluation.Subtree.{Subtree}
-use Rattle.trees.proofs.Walking.{kept_below, Invariant}
+use Rattle.trees.proofs.Walking.{kept_below, Invariant, advance_few, advance_all_few}
 use Rattle.trees.proofs.evaluation.Entries.{set_length, set_bounded, set_before, start_before, set_last, start_last}
 use Rattle.trees.proofs.evaluation.Stacks.{length_stack, stack_up_to}
 
@@ -80,6 +82,26 @@ holding_holdable {stack} {held} h =
       sizes = stack_sizes_low stack held.height held.nodes h.fits.following;
       first = h.first;
     }
+
+-- A walk has no more trees than nodes exactly if the array that holds it has.
+module _ {n h nodes : ℕ} {stack : List Entry} (first : Option Subtree) where
+  pub fills_few : Fills n stack h nodes → length (walk_in stack h nodes first).stack ≤ nodes
+  unfolding walk_in
+  fills_few fills = rw (length_stack stack h nodes) fills.few
+
+  few_fills : FillsNodes n stack h nodes → length (walk_in stack h nodes first).stack ≤ nodes → Fills n stack h nodes
+  unfolding walk_in
+  few_fills fits few =
+      record { places = fits.places; room = fits.room; few = rw (length_stack stack h nodes) at few; consecutive = fits.consecutive }
+
+  module _ (fits : FillsNodes n stack h nodes) (A : Automaton) (begun : Walk) (few : length begun.stack ≤ begun.nodes) where
+    pub step_fills : (symbol : ℕ) → advance A begun symbol ≡ found (walk_in stack h nodes first) → Fills n stack h nodes
+    unfolding walk_in
+    step_fills symbol e = few_fills fits (advance_few A begun symbol few e)
+
+    pub walked_fills : (symbols : List ℕ) → advance_all A begun symbols ≡ found (walk_in stack h nodes first) → Fills n stack h nodes
+    unfolding walk_in
+    walked_fills symbols e = few_fills fits (advance_all_few A begun symbols few e)
 
 -- The stack of some trees, the topmost last, up to an end.
 abbrev pub entry_of : List ℕ → (start : ℕ) → start < 65536 → Entry
