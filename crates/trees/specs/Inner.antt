@@ -69,7 +69,7 @@ pub record FillsNodes (n : ℕ) (stack : List Entry) (h nodes : ℕ) : Type 0 wh
   pub room : h ≤ n
   pub consecutive : Consecutive stack h nodes
 
--- What holds of each of these that begins with no more trees than nodes, as a walk over a tree does: they stay no more than the nodes.
+-- What holds of every such walk that begins with no more trees than nodes, as each over a tree does: its trees are no more than the nodes, too.
 pub record Fills (n : ℕ) (stack : List Entry) (h nodes : ℕ) : Type 0 where
   pub places : n ≤ 1024
   pub room : h ≤ n
